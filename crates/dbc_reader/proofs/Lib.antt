@@ -1,0 +1,9 @@
+pub mod Digits
+pub mod Scan
+pub mod Steps
+pub mod Exact
+pub mod Loop
+pub mod Lively
+pub mod Halting
+pub mod FirstFault
+pub mod Answered
