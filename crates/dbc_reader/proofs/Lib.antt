@@ -1,4 +1,4 @@
-pub mod Digits
+pub mod WholeNumbers
 pub mod Scan
 pub mod Steps
 pub mod Exact

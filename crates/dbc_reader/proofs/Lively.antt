@@ -11,7 +11,7 @@ use Rattle.dbc_reader.specs.declared.token.Lexed.{Lexed}
 use Rattle.dbc_reader.specs.Template.{Want, word, string, mark, whole_number, Test, is_string, is_name, Template, done, one, choose, run, Field, number_field, text_field, no_field, number_or_fault, given, passes}
 use Rattle.dbc_reader.specs.Rows.{Row, rows, row_among, row_of}
 use Rattle.dbc_reader.specs.Statements.{EndsRun, Passing, Fits}
-use Rattle.dbc_reader.proofs.Digits.{whole_in-zero}
+use Rattle.dbc_reader.proofs.WholeNumbers.{whole_in-zero}
 
 -- ---- what may stand behind tokens that were read: the end, or a token that each test takes as the one that stood there
 
