@@ -7,3 +7,4 @@ pub mod Lively
 pub mod Halting
 pub mod FirstFault
 pub mod Answered
+pub mod Words

@@ -16,3 +16,6 @@ mod token;
 
 pub use reading::statements;
 pub use statement::{Body, Statement};
+
+#[cfg(test)]
+mod tests;
