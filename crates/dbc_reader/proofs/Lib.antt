@@ -1,0 +1,10 @@
+pub mod WholeNumbers
+pub mod Scan
+pub mod Steps
+pub mod Exact
+pub mod Loop
+pub mod Lively
+pub mod Halting
+pub mod FirstFault
+pub mod Answered
+pub mod Words

@@ -1,0 +1,5 @@
+pub mod Number
+pub mod Digits
+pub mod Decimal
+pub mod Spelling
+pub mod Reading

@@ -1,0 +1,71 @@
+//! Decimals.
+ghost use Rattle.limit_fraction.specs.Number.{IsKept};
+
+use crate::powers::{times_ten_to, with_sign};
+use crate::reading::read_decimal;
+use thiserror::Error;
+
+/// The number `mantissa * 10^exponent`.
+///
+/// Zero has exponent 0. Any other mantissa is not divisible by 10 and has at most 28 digits, and
+/// the exponent is from -400 to 400.
+#[derive(Clone, Copy, Debug, PartialEq, Eq)]
+pub struct Decimal {
+    pub mantissa: i128,
+    pub exponent: i16,
+    pub ghost kept: { IsKept mantissa exponent },
+}
+
+/// The text spells no number that is kept.
+#[derive(Clone, Copy, Debug, PartialEq, Eq, Error)]
+#[error("this is not a number")]
+pub struct NumberFault;
+
+/// The greatest whole number that is given, and in size the least.
+const WHOLE: u128 = 1 << 64;
+
+impl Decimal {
+    ghost use Rattle.std.specs.Prelude.{◌≡◌, neg_ℤ, IfOk, OnErr, Some, None};
+    ghost use Rattle.limit_fraction.specs.Decimal.{whole_of};
+    ghost use Rattle.limit_fraction.specs.Reading.{decimal_of};
+
+    /// The decimal that the text spells: an optional sign, digits with an optional point and at
+    /// least one digit in all, and optionally `e` or `E`, an optional sign and digits.
+    ///
+    /// # Errors
+    ///
+    /// The text spells no number, or one that is not kept: not 0, and with more than 28 digits
+    /// or an exponent that is not from -400 to 400 once all tens are taken off its mantissa.
+    pub fn read(bytes: &[u8]) -> Result<Decimal, NumberFault>
+        ensures value { IfOk result (λ d. decimal_of bytes.now ≡ Some d) }
+        ensures fault { OnErr result (decimal_of bytes.now ≡ None) }
+    {
+        read_decimal(bytes)
+    }
+
+    /// The number with its sign turned.
+    pub fn negated(&self) -> Decimal
+        ensures mantissa { result.mantissa ≡ neg_ℤ self.now.mantissa }
+        ensures exponent { result.exponent ≡ self.now.exponent }
+    {
+        Decimal {
+            mantissa: -self.mantissa,
+            exponent: self.exponent,
+        }
+    }
+
+    /// The number, where it is whole and from -2^64 to 2^64.
+    pub fn whole(&self) -> Option<i128>
+        ensures value { result ≡ whole_of self.now }
+    {
+        if self.exponent < 0 {
+            return None;
+        }
+        let size = times_ten_to(self.mantissa.unsigned_abs(), self.exponent as usize);
+        if size <= WHOLE {
+            Some(with_sign(self.mantissa < 0, size))
+        } else {
+            None
+        }
+    }
+}
