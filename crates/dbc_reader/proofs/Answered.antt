@@ -1,17 +1,16 @@
 -- What the answer of the reader says of the text, by what reading gives.
-use Rattle.std.proofs.Common.{◌≡◌, ℕ, Bool, true, false, cond, List, length, Result, Ok, Err, refl, ap, sym, subst, ◌∙◌, arith}
+use Rattle.std.proofs.Common.{◌≡◌, ℕ, false, List, length, Result, Ok, Err, subst, arith}
 use Rattle.std.specs.Prelude.{IfOk}
 use Rattle.std.specs.Global.{Vec}
 use Rattle.can_model.specs.Refusal.{Refusal, Gives}
 use Rattle.can_model.specs.declared.refusal.TextKind.{TextKind}
-use Rattle.can_model.specs.declared.refusal.TextKind.TheVariants.{TooLarge}
 use Rattle.can_model.specs.declared.refusal.TextFault.{TextFault}
 use Rattle.can_model.specs.declared.refusal.TextFault.TheVariants.{Fault}
 use Rattle.dbc_reader.specs.declared.statement.Statement.{Statement}
 use Rattle.dbc_reader.specs.Tokens.{tokens, end_line}
-use Rattle.dbc_reader.specs.Reading.{fault_at, all_of, too_large, statements_of}
-use Rattle.dbc_reader.specs.Statements.{AreStatements, IsStatementList}
-use Rattle.dbc_reader.specs.FirstFault.{IsFirstTokenFault, IsFirstFault}
+use Rattle.dbc_reader.specs.Reading.{all_of, too_large}
+use Rattle.dbc_reader.specs.Statements.{IsStatementList}
+use Rattle.dbc_reader.specs.FirstFault.{IsFirstFault}
 use Rattle.dbc_reader.proofs.Exact.{all_sound, all_complete}
 use Rattle.dbc_reader.proofs.FirstFault.{first_fault, fault_read}
 

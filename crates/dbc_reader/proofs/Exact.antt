@@ -1,17 +1,17 @@
 -- What is read stands in the relation, by induction over the template and then over the statements; and what stands there is read.
-use Rattle.std.proofs.Common.{◌≡◌, ◌⊎◌, inl, inr, ℕ, zero, suc, ◌+◌, ◌<◌, ◌≤◌, Bool, true, false, cond, List, [], ◌∷◌, ◌++◌, length, Result, Ok, Err, refl, sym, ap, subst, ◌∙◌, arith}
+use Rattle.std.proofs.Common.{◌≡◌, inl, inr, ℕ, zero, suc, ◌≤◌, Bool, true, false, cond, List, [], ◌∷◌, ◌++◌, length, Result, Ok, Err, refl, sym, ap, subst, ◌∙◌, arith}
 use Rattle.std.specs.declared.option.Option.{Option}
-use Rattle.std.specs.declared.option.Option.TheVariants.{None, Some}
+use Rattle.std.specs.declared.option.Option.TheVariants.{Some}
 use Rattle.can_model.specs.Refusal.{Refusal}
 use Rattle.dbc_reader.specs.declared.token.Token.{Token}
 use Rattle.dbc_reader.specs.declared.token.Token.TheVariants.{Word}
 use Rattle.dbc_reader.specs.declared.token.Lexed.{Lexed}
 use Rattle.dbc_reader.specs.declared.statement.Statement.{Statement}
-use Rattle.dbc_reader.specs.Template.{Want, Test, Template, done, one, choose, run, Field, given, passes}
+use Rattle.dbc_reader.specs.Template.{Test, Template, done, one, choose, run, Field, passes}
 use Rattle.dbc_reader.specs.Rows.{Row, row_of}
 use Rattle.dbc_reader.specs.Reading.{◌>>=◌, one_at, next_passes, past, template_at, row_at, begun_at, statement_at, all_of}
 use Rattle.dbc_reader.specs.Statements.{EndsRun, Passing, Fits, BeginsWith, AreStatements}
-use Rattle.dbc_reader.proofs.Steps.{joined, Joined, joined_ok, bind_ok, ok_is, Read, statement_ok, statement_shorter, all_of-step, all_of-stop, all_of-nil}
+use Rattle.dbc_reader.proofs.Steps.{joined, joined_ok, bind_ok, ok_is, statement_ok, statement_shorter, all_of-step, all_of-stop, all_of-nil}
 
 -- ---- what is read stands in the relation
 

@@ -1,12 +1,12 @@
 -- Reading halts at the first fault: with the token there no list of statements begins, since reading halts whatever stands behind;
 -- and there is one such place, since of two fronts of the tokens one is a front of the other.
-use Rattle.std.proofs.Common.{◌≡◌, ◌⊎◌, inl, inr, ℕ, zero, suc, ◌+◌, ◌<◌, ◌≤◌, List, [], ◌∷◌, ◌++◌, length, Result, Ok, Err, refl, sym, ap, subst, ◌∙◌, append_assoc, arith}
+use Rattle.std.proofs.Common.{◌≡◌, ◌⊎◌, inl, inr, ℕ, zero, suc, ◌≤◌, List, [], ◌∷◌, ◌++◌, length, Result, Ok, Err, refl, sym, ap, subst, ◌∙◌, append_assoc, arith}
 use Rattle.std.specs.declared.option.Option.{Option}
 use Rattle.std.specs.declared.option.Option.TheVariants.{None, Some}
 use Rattle.std.proofs.lemmas.List.{append-nil}
 use Rattle.can_model.specs.Refusal.{Refusal}
 use Rattle.can_model.specs.declared.refusal.TextKind.{TextKind}
-use Rattle.can_model.specs.declared.refusal.TextKind.TheVariants.{Unexpected, BadNumber}
+use Rattle.can_model.specs.declared.refusal.TextKind.TheVariants.{Unexpected}
 use Rattle.dbc_reader.specs.declared.token.Token.{Token}
 use Rattle.dbc_reader.specs.declared.token.Token.TheVariants.{Word, Number, String, Mark, Bad}
 use Rattle.dbc_reader.specs.declared.token.Lexed.{Lexed}
@@ -15,12 +15,12 @@ use Rattle.dbc_reader.specs.declared.statement.Body.{Body}
 use Rattle.dbc_reader.specs.Template.{Field}
 use Rattle.dbc_reader.specs.Rows.{Row, row_of}
 use Rattle.dbc_reader.specs.Reading.{◌>>=◌, fault_at, template_at, made_at, row_at, begun_at, statement_at, all_of}
-use Rattle.dbc_reader.specs.Statements.{Fits, BeginsWith, AreStatements}
+use Rattle.dbc_reader.specs.Statements.{Fits, AreStatements}
 use Rattle.dbc_reader.specs.FirstFault.{AreWhole, AreBegun, WantsNumber, HasKind, StopsAt, IsFirstTokenFault}
 use Rattle.dbc_reader.proofs.Steps.{statement_ok, statement_shorter, all_of-step, all_of-stop, all_of-nil}
 use Rattle.dbc_reader.proofs.Exact.{template_fits, fits_template, statement_read, all_sound, all_complete}
 use Rattle.dbc_reader.proofs.Lively.{MayFollow, fits_local, numbered, Accepts, live, row_live}
-use Rattle.dbc_reader.proofs.Halting.{Kinds, AtBack, Halts, Beside, may, lift, err_is, bind_err, halts_here, template_halts}
+use Rattle.dbc_reader.proofs.Halting.{Kinds, AtBack, Halts, may, lift, err_is, bind_err, halts_here, template_halts}
 
 -- ---- where reading all statements halts
 

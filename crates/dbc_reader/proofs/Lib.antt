@@ -8,3 +8,4 @@ pub mod Halting
 pub mod FirstFault
 pub mod Answered
 pub mod Words
+pub mod Worked

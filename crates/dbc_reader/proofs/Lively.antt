@@ -1,16 +1,14 @@
 -- What stands before a fault can be brought to an end, and reading finds the same whatever stands behind it.
-use Rattle.std.proofs.Common.{◌≡◌, ◌⊎◌, inl, inr, ℕ, Bool, true, false, cond, List, [], ◌∷◌, ◌++◌, Result, Ok, Err, refl, sym, ap, subst, ◌∙◌, append_assoc, eq-eqb}
+use Rattle.std.proofs.Common.{◌≡◌, inl, inr, ℕ, true, false, cond, List, [], ◌∷◌, ◌++◌, Ok, refl, sym, ap, subst, ◌∙◌, append_assoc, eq-eqb}
 use Rattle.std.specs.List.{AllByRecursion}
 use Rattle.std.specs.Str.{bytes_eq}
 use Rattle.std.specs.declared.option.Option.{Option}
-use Rattle.std.specs.declared.option.Option.TheVariants.{None, Some}
-use Rattle.can_model.specs.declared.refusal.TextKind.{TextKind}
-use Rattle.dbc_reader.specs.declared.token.Token.{Token}
-use Rattle.dbc_reader.specs.declared.token.Token.TheVariants.{Word, Number, String, Mark, Bad}
+use Rattle.std.specs.declared.option.Option.TheVariants.{Some}
+use Rattle.dbc_reader.specs.declared.token.Token.TheVariants.{Word, Number, String, Mark}
 use Rattle.dbc_reader.specs.declared.token.Lexed.{Lexed}
-use Rattle.dbc_reader.specs.Template.{Want, word, string, mark, whole_number, Test, is_string, is_name, Template, done, one, choose, run, Field, number_field, text_field, no_field, number_or_fault, given, passes}
+use Rattle.dbc_reader.specs.Template.{Want, word, string, mark, whole_number, Test, Template, done, one, choose, run, Field, number_field, text_field, no_field, number_or_fault, given, passes}
 use Rattle.dbc_reader.specs.Rows.{Row, rows, row_among, row_of}
-use Rattle.dbc_reader.specs.Statements.{EndsRun, Passing, Fits}
+use Rattle.dbc_reader.specs.Statements.{EndsRun, Fits}
 use Rattle.dbc_reader.proofs.WholeNumbers.{whole_in-zero}
 
 -- ---- what may stand behind tokens that were read: the end, or a token that each test takes as the one that stood there

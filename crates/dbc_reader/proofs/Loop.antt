@@ -2,7 +2,7 @@
 use Rattle.std.proofs.Common.{◌≡◌, ℕ, ◌≤◌, ◌-◌, List, [], ◌∷◌, ◌++◌, length, take, drop, get_or, Result, Ok, Err, refl, sym, ap, ◌∙◌, append_assoc, arith}
 use Rattle.std.proofs.lemmas.List.{append-nil}
 use Rattle.std.proofs.Math.Seq.{take-length}
-use Rattle.can_model.specs.Refusal.{Refusal, Gives}
+use Rattle.can_model.specs.Refusal.{Refusal}
 use Rattle.can_model.specs.declared.refusal.TextFault.{TextFault}
 use Rattle.can_model.specs.declared.refusal.TextFault.TheVariants.{Fault, Memory}
 use Rattle.dbc_reader.specs.declared.statement.Statement.{Statement}

@@ -1,5 +1,5 @@
 -- Steps of reading that found no fault, and how many tokens they take: the number of steps that a list needs is no more than its tokens.
-use Rattle.std.proofs.Common.{◌≡◌, ℕ, zero, suc, ◌+◌, ◌<◌, ◌≤◌, Bool, true, false, cond, List, [], ◌∷◌, length, Result, Ok, Err, refl, sym, ap, ◌∙◌, arith}
+use Rattle.std.proofs.Common.{◌≡◌, ℕ, zero, suc, ◌≤◌, true, false, cond, List, [], ◌∷◌, length, Result, Ok, Err, refl, sym, ap, ◌∙◌, arith}
 use Rattle.std.specs.declared.option.Option.{Option}
 use Rattle.std.specs.declared.option.Option.TheVariants.{None, Some}
 use Rattle.can_model.specs.Refusal.{Refusal}
@@ -11,7 +11,7 @@ use Rattle.dbc_reader.specs.declared.statement.Statement.{Statement}
 use Rattle.dbc_reader.specs.declared.statement.Body.{Body}
 use Rattle.dbc_reader.specs.Template.{Want, Test, Template, done, one, choose, run, Field, given, passes}
 use Rattle.dbc_reader.specs.Rows.{Row, row_of}
-use Rattle.dbc_reader.specs.Reading.{◌>>=◌, fault_at, with_rest, one_at, next_passes, past, template_at, made_at, row_at, begun_at, statement_at, statements_at, all_of}
+use Rattle.dbc_reader.specs.Reading.{◌>>=◌, with_rest, one_at, next_passes, past, template_at, made_at, row_at, begun_at, statement_at, statements_at, all_of}
 
 -- a step that found no fault
 pub bind_ok : {A B : Type 0} (r : Result A Refusal) (f : A → Result B Refusal) (y : B) → (r >>= f) ≡ Ok y → (x : A) × (r ≡ Ok x) × (f x ≡ Ok y)

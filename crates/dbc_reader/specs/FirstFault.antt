@@ -4,7 +4,7 @@ use Rattle.can_model.specs.Refusal.{Refusal}
 use Rattle.can_model.specs.declared.refusal.TextKind.{TextKind}
 use Rattle.can_model.specs.declared.refusal.TextKind.TheVariants.{BadNumber, Unexpected, TooLarge}
 use Rattle.dbc_reader.specs.declared.token.Token.{Token}
-use Rattle.dbc_reader.specs.declared.token.Token.TheVariants.{Word, Number, String, Mark, Bad}
+use Rattle.dbc_reader.specs.declared.token.Token.TheVariants.{Number, Bad}
 use Rattle.dbc_reader.specs.declared.token.Lexed.{Lexed}
 use Rattle.dbc_reader.specs.declared.statement.Statement.{Statement}
 use Rattle.dbc_reader.specs.Tokens.{tokens, end_line}

@@ -5,7 +5,7 @@ use Rattle.std.specs.declared.option.Option.{Option}
 use Rattle.std.specs.declared.option.Option.TheVariants.{None, Some}
 use Rattle.dbc_reader.specs.declared.statement.Body.{Body}
 use Rattle.dbc_reader.specs.declared.statement.Body.TheVariants.{Message, Skipped}
-use Rattle.dbc_reader.specs.Template.{Want, word, string, mark, whole_number, Test, is_string, is_name, Template, done, one, choose, run, Field, number_field, text_field, no_field}
+use Rattle.dbc_reader.specs.Template.{word, string, mark, whole_number, is_string, is_name, Template, done, one, choose, run, Field, number_field, text_field, no_field}
 
 pub record Row : Type 0 where
   pub first : List ℕ

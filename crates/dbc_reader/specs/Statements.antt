@@ -6,7 +6,7 @@ use Rattle.dbc_reader.specs.declared.token.Token.TheVariants.{Word}
 use Rattle.dbc_reader.specs.declared.token.Lexed.{Lexed}
 use Rattle.dbc_reader.specs.declared.statement.Statement.{Statement}
 use Rattle.dbc_reader.specs.Tokens.{tokens}
-use Rattle.dbc_reader.specs.Template.{Want, Test, Template, done, one, choose, run, Field, given, passes}
+use Rattle.dbc_reader.specs.Template.{Test, Template, done, one, choose, run, Field, given, passes}
 use Rattle.dbc_reader.specs.Rows.{Row, row_of}
 use Rattle.dbc_reader.specs.Reading.{too_large}
 

@@ -4,3 +4,9 @@ pub mod Texts
 pub mod Keeping
 pub mod Wholes
 pub mod Signs
+pub mod Units
+pub mod Unique
+pub mod Spelled
+pub mod ReadBack
+pub mod SpelledDecimals
+pub mod WholeNumbers

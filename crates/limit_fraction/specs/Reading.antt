@@ -3,9 +3,10 @@ use Rattle.std.specs.Prelude.{ℕ, zero, suc, ◌+◌, ◌/◌, ◌%◌, Bool, t
 use Rattle.std.specs.List.{list_all}
 use Rattle.std.specs.Char.{is_ascii_digit}
 use Rattle.limit_fraction.specs.declared.number.Decimal.{Decimal}
-use Rattle.limit_fraction.specs.Number.{Number, units}
+use Rattle.limit_fraction.specs.Number.{Number, units, IsSame}
 use Rattle.limit_fraction.specs.Digits.{value_after, signed}
-use Rattle.limit_fraction.specs.Decimal.{zero_decimal, kept_parts}
+use Rattle.limit_fraction.specs.Spelling.{Spells}
+use Rattle.limit_fraction.specs.Decimal.{number_of, zero_decimal, kept_parts}
 
 -- whether a text begins with a minus, and what follows its sign
 abbrev pub sign_of : List ℕ → Bool × List ℕ
@@ -81,3 +82,7 @@ kept number = option_and_then (λ n. decimal_for n.mantissa n.exponent) number
 -- the decimal that a text spells, where it spells one that is kept
 unfoldable pub decimal_of : List ℕ → Option Decimal
 decimal_of bs = kept (number_in bs)
+
+-- the text spells the number of the decimal
+abbrev pub IsSpelled : List ℕ → Decimal → Type 0
+IsSpelled bs d = (n : Number) × Spells bs n × IsSame n (number_of d)

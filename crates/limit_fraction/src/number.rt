@@ -25,9 +25,11 @@ pub struct NumberFault;
 const WHOLE: u128 = 1 << 64;
 
 impl Decimal {
-    ghost use Rattle.std.specs.Prelude.{◌≡◌, neg_ℤ, IfOk, OnErr, Some, None};
-    ghost use Rattle.limit_fraction.specs.Decimal.{whole_of};
-    ghost use Rattle.limit_fraction.specs.Reading.{decimal_of};
+    ghost use Rattle.std.specs.Prelude.{◌≡◌, ◌^◌, ◌≤◌, ℤ, pos, neg_ℤ, unsigned_abs, IfOk, OnErr, IfSome, Some, None};
+    ghost use Rattle.limit_fraction.specs.Number.{units, IsSame};
+    ghost use Rattle.limit_fraction.specs.Decimal.{number_of, whole_of};
+    ghost use Rattle.limit_fraction.specs.Reading.{decimal_of, IsSpelled};
+    ghost use Rattle.limit_fraction.specs.declared.number.Decimal.{Decimal};
 
     /// The decimal that the text spells: an optional sign, digits with an optional point and at
     /// least one digit in all, and optionally `e` or `E`, an optional sign and digits.
@@ -39,6 +41,8 @@ impl Decimal {
     pub fn read(bytes: &[u8]) -> Result<Decimal, NumberFault>
         ensures value { IfOk result (λ d. decimal_of bytes.now ≡ Some d) }
         ensures fault { OnErr result (decimal_of bytes.now ≡ None) }
+        ensures spelled { IfOk result (λ d. IsSpelled bytes.now d) }
+        ensures only { (d : Decimal) → IsSpelled bytes.now d → result ≡ Ok d }
     {
         read_decimal(bytes)
     }
@@ -57,6 +61,16 @@ impl Decimal {
     /// The number, where it is whole and from -2^64 to 2^64.
     pub fn whole(&self) -> Option<i128>
         ensures value { result ≡ whole_of self.now }
+        ensures same { IfSome result (λ z. IsSame (units (pos 0) z) (number_of self.now)) }
+        ensures within { IfSome result (λ z. unsigned_abs z ≤ 2 ^ 64) }
+        ensures only { (z : ℤ) → unsigned_abs z ≤ 2 ^ 64 → IsSame (units (pos 0) z) (number_of self.now)
+            → result ≡ Some z }
+    {
+        self.whole_value()
+    }
+
+    fn whole_value(&self) -> Option<i128>
+        ensures { result ≡ whole_of self.now }
     {
         if self.exponent < 0 {
             return None;

@@ -1,7 +1,6 @@
-use Rattle.std.proofs.Common.{◌≡◌, ◌-◌, List, length, take, drop, ◌∷◌, [], arith}
+use Rattle.std.proofs.Common.{◌-◌, length, take, drop, arith}
 use Rattle.std.proofs.lemmas.Result.{err_from_is_err_and}
 use Rattle.std.proofs.lemmas.List.{nil_from_length, length-take}
-use Rattle.dbc_reader.specs.declared.token.Lexed.{Lexed}
 use Rattle.dbc_reader.specs.Reading.{all_of}
 use Rattle.dbc_reader.proofs.Steps.{statement_shorter}
 use Rattle.dbc_reader.proofs.Loop.{goes_on, ends, is_done, first_and_rest}

@@ -1,4 +1,4 @@
-use Rattle.std.proofs.Common.{◌≡◌, sym, ◌∙◌}
+use Rattle.std.proofs.Common.{sym, ◌∙◌}
 use Rattle.dbc_reader.proofs.Answered.{is_found, is_only, is_fault, is_refused}
 use Rattle.dbc_reader.proofs.reading.statements.Goals as goal
 
