@@ -1,6 +1,7 @@
 -- A whole number is its size with its sign.
-use Rattle.std.proofs.Common.{◌≡◌, ℕ, zero, suc, ◌*◌, ◌^◌, ◌≤◌, min, false, true, ℤ, pos, negsuc, neg_ℤ, ◌*ℤ◌, int_lt, unsigned_abs, refl, ap, arith}
-use Rattle.std.proofs.lemmas.Int.{ints}
+use Rattle.std.proofs.Common.{◌≡◌, ℕ, zero, suc, ◌*◌, ◌^◌, ◌<◌, ◌≤◌, FitsSigned, min, false, true, ℤ, pos, negsuc, neg_ℤ, ◌*ℤ◌, int_lt, unsigned_abs, refl, ap, arith}
+use Rattle.std.specs.Int.{w128}
+use Rattle.std.proofs.lemmas.Int.{ints, fits_signed_from_abs}
 use Rattle.limit_fraction.specs.Digits.{signed}
 use Rattle.limit_fraction.specs.Unit.{cut_off}
 
@@ -35,3 +36,11 @@ abs-cut (negsuc n) = at (min (suc n) (2 ^ 126))
 pub cut-small : (z : ℤ) → unsigned_abs z ≤ 2 ^ 126 → cut_off z ≡ z
 cut-small (pos n) h = ap pos (omega arith)
 cut-small (negsuc n) h = let same : min (suc n) (2 ^ 126) ≡ suc n = omega arith in ap (λ (k : ℕ). neg_ℤ (pos k)) same
+
+pub abs-neg : (z : ℤ) → unsigned_abs (neg_ℤ z) ≡ unsigned_abs z
+abs-neg (pos zero) = refl
+abs-neg (pos (suc n)) = refl
+abs-neg (negsuc n) = refl
+
+pub neg-fits : (z : ℤ) → unsigned_abs z < 2 ^ 127 → FitsSigned w128 (neg_ℤ z)
+neg-fits z h = fits_signed_from_abs w128 (neg_ℤ z) (omega (arith, abs-neg z))

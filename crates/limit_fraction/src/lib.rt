@@ -7,6 +7,6 @@ mod powers;
 mod reading;
 mod scaling;
 
-pub use limits::Range;
+pub use limits::{Range, bounds};
 pub use number::{Decimal, NumberFault};
 pub use scaling::{ScaleTooWide, UnitScale, scale};

@@ -22,5 +22,5 @@ pub struct ScaleTooWide;
 
 mod making;
 
-pub(crate) use making::in_unit;
 pub use making::scale;
+pub(crate) use making::{in_unit, tens_above};

@@ -16,7 +16,7 @@ const FACTOR_LIMIT: u128 = 1 << 60;
 const OFFSET_LIMIT: u128 = 1 << 100;
 
 /// How far the exponent is above the unit, 0 where it is not.
-fn tens_above(unit: i16, exponent: i16) -> usize
+pub(crate) fn tens_above(unit: i16, exponent: i16) -> usize
     requires unit { unsigned_abs unit ≤ 400 }
     requires exponent { unsigned_abs exponent ≤ 400 }
     ensures { result ≡ natural (exponent -ℤ unit) }
