@@ -10,3 +10,6 @@ pub mod Spelled
 pub mod ReadBack
 pub mod SpelledDecimals
 pub mod WholeNumbers
+pub mod Quotients
+pub mod Rounding
+pub mod Meeting

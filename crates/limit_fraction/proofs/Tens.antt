@@ -47,3 +47,6 @@ IsLong-more n d small h = record { long = at }
     at : (m z : ℕ) → n * 10 + d ≡ m * 10 ^ z → 10 ^ 28 ≤ m
     at m zero same = omega (arith, mul-one m, h.long n zero (sym (mul-one n)))
     at m (suc z) same = h.long m z (omega (arith, tens_suc m z))
+
+pub tens_uncut : (k : ℕ) → min (1 * 10 ^ min k 28) (2 ^ 126) ≡ 10 ^ min k 28
+tens_uncut k = omega (arith, tens_rise (min k 28) 28 (omega arith))

@@ -3,3 +3,6 @@ pub mod Digits
 pub mod Decimal
 pub mod Spelling
 pub mod Reading
+pub mod Unit
+pub mod Scale
+pub mod Limits
