@@ -1,0 +1,137 @@
+-- The steps of a run, joined: what was read, what its text gives, and what was told.
+use Rattle.std.proofs.Common.{◌≡◌, ◌⊎◌, inl, inr, ℕ, ◌+◌, ◌<◌, ◌≤◌, Bool, true, false, ltb, List, [], ◌++◌, length, take, Result, Ok, Err, refl, sym, ap, subst, ◌∙◌, arith, length-take}
+use Rattle.std.specs.Prelude.{IfSome, IsSomeAnd, IsOk, is_ok}
+use Rattle.std.specs.declared.option.Option.{Option}
+use Rattle.std.specs.declared.option.Option.TheVariants.{None, Some}
+use Rattle.std.specs.FinMap.{get, insert}
+use Rattle.std.proofs.lemmas.Bool.{cases_lt, lt-ltb}
+use Rattle.std.proofs.lemmas.List.{take_all}
+use Rattle.can_model.specs.Refusal.{Refusal}
+use Rattle.cg_out.specs.Outside.{Folder, Rose, IfTold, IsTornWrite, Reads}
+use Rattle.cli_tool.specs.World.{FilesSeen, SinkSeen, World, OfText, Calls, Reports, TearsReport}
+use Rattle.cli_tool.specs.FileName.{header_path}
+use Rattle.cli_tool.specs.HeaderInFile.{header_in, header_within}
+use Rattle.cli_tool.specs.Report.{written_report, refusal_report}
+use Rattle.cli_tool.specs.Telling.{Tells, TellsRefusal, PutsHeader, TearsFile, TellsHeader}
+use Rattle.cli_tool.specs.Endings.{GenerateEnds, OfHeader, HasHeader, WritesHeader, TearsHeader, RefusesText, WantsMemory}
+use Rattle.cli_tool.specs.declared.status.Status.{Status}
+use Rattle.cli_tool.specs.declared.status.Status.TheVariants.{Done, Refused, FileFault, OutFault, NoMemory}
+
+-- one byte more than the limit tells as much as all bytes
+header_within-cut : (limit : ℕ) (file text : List ℕ) → header_within limit file (take (limit + 1) text) ≡ header_within limit file text
+header_within-cut limit file text =
+    elim (cases_lt limit (length text)) [
+      | inl lt ↦
+          let a : ltb limit (length (take (limit + 1) text)) ≡ true = lt-ltb _ _ (omega (arith, length-take (limit + 1) text)) in
+          let b : ltb limit (length text) ≡ true = lt-ltb _ _ lt in
+          rw (a, b) refl
+      | inr le ↦ ap (header_within limit file) (take_all (limit + 1) text (omega arith))
+    ]
+
+pub header_in-cut : (file text bytes : List ℕ) (given : Result (List ℕ) Refusal) → text ≡ take (8388608 + 1) bytes → header_in file text ≡ given → header_in file bytes ≡ given
+unfolding header_in
+header_in-cut file text bytes given e h = sym (header_within-cut 8388608 file bytes) ∙ ap (header_within 8388608 file) (sym e) ∙ h
+
+-- a file that was read: the files as they were and then, and the bytes that came
+pub record Read (file text : List ℕ) (old mid : FilesSeen) : Type 0 where
+  pub text_is : OfText old file (λ bytes. text ≡ take (8388608 + 1) bytes)
+  pub content : mid.content ≡ old.content
+  pub later : old.faults ≤ mid.faults
+  pub calls : Calls old mid 1
+
+-- a read into an empty buffer
+pub read_of : (file text start got : List ℕ) (old mid : FilesSeen) → text ≡ got → start ≡ [] → Reads old.content file 8388608 start got → mid.content ≡ old.content → old.faults ≤ mid.faults → Calls old mid 1 → Read file text old mid
+read_of file text start got old mid e s r content later calls = record {
+  text_is = subst (λ (p : List ℕ × List ℕ). IfSome old.content (λ folder. IsSomeAnd (get folder file) (λ bytes. p.0 ≡ p.1 ++ take (8388608 + 1) bytes))) (λ i. (sym e i, s i)) r.told;
+  content = content;
+  later = later;
+  calls = calls;
+}
+
+IsSomeAnd-weaker : {A : Type 0} (o : Option A) (P Q : A → Type 0) → ((x : A) → P x → Q x) → IsSomeAnd o P → IsSomeAnd o Q
+IsSomeAnd-weaker None P Q f h = h
+IsSomeAnd-weaker (Some x) P Q f h = f x h
+
+OfText-weaker : (files : FilesSeen) (file : List ℕ) (P Q : List ℕ → Type 0) → ((x : List ℕ) → P x → Q x) → OfText files file P → OfText files file Q
+OfText-weaker files file P Q f h = by_cases files.content h where
+  by_cases : (o : Option Folder) → IfSome o (λ folder. IsSomeAnd (get folder file) P) → IfSome o (λ folder. IsSomeAnd (get folder file) Q)
+  by_cases None k = k
+  by_cases (Some folder) k = IsSomeAnd-weaker (get folder file) P Q f k
+
+read_gives : (file text : List ℕ) (old mid : FilesSeen) (given : Result (List ℕ) Refusal) → Read file text old mid → header_in file text ≡ given → OfText old file (λ bytes. header_in file bytes ≡ given)
+read_gives file text old mid given r h =
+    OfText-weaker old file (λ bytes. text ≡ take (8388608 + 1) bytes) (λ bytes. header_in file bytes ≡ given) (λ bytes e. header_in-cut file text bytes given e h) r.text_is
+
+-- what the text's header did to the files, when only the time since the read is known
+of_header : (file header : List ℕ) (old mid new : FilesSeen) (P : List ℕ → Folder → Folder → Type 0) → OfText old file (λ bytes. header_in file bytes ≡ Ok header) → mid.content ≡ old.content
+    → IfTold mid.content new.content (λ a b. P header a b) → OfHeader file old new P
+of_header file header old mid new P t e h = told old.content new.content t (subst (λ (o : Option Folder). IfTold o new.content (λ a b. P header a b)) e h) where
+  told : (before now : Option Folder) → IfSome before (λ folder. IsSomeAnd (get folder file) (λ bytes. header_in file bytes ≡ Ok header)) → IfTold before now (λ a b. P header a b)
+      → IfTold before now (λ a b. IsSomeAnd (get a file) (λ bytes. (x : List ℕ) × (header_in file bytes ≡ Ok x) × P x a b))
+  told before None t p = tt
+  told None (Some b) t p = p
+  told (Some a) (Some b) t p = IsSomeAnd-weaker (get a file) _ _ (λ bytes q. (header, q, p)) t
+
+calls_joined : (k m n : Option ℕ) (i j : ℕ) → IfTold k m (λ x y. y ≡ x + i) → IfTold m n (λ x y. y ≡ x + j) → IfTold k n (λ x y. y ≡ x + (i + j))
+calls_joined k m None i j p q = tt
+calls_joined k None (Some z) i j p q = absurd q
+calls_joined None (Some y) (Some z) i j p q = absurd p
+calls_joined (Some x) (Some y) (Some z) i j p q = omega arith
+
+Rose-earlier : (a b c : ℕ) → a ≤ b → Rose b c → Rose a c
+Rose-earlier a b c le (inl lt) = inl (omega arith)
+Rose-earlier a b c le (inr e) = inr e
+
+has_header : (file text header : List ℕ) (old mid : FilesSeen) → Read file text old mid → header_in file text ≡ Ok header → HasHeader file old
+has_header file text header old mid r h =
+    OfText-weaker old file (λ bytes. text ≡ take (8388608 + 1) bytes) (λ bytes. IsOk (header_in file bytes)) (λ bytes e. ap is_ok (header_in-cut file text bytes (Ok header) e h)) r.text_is
+
+writes : (file text header : List ℕ) (old mid new : FilesSeen) → Read file text old mid → header_in file text ≡ Ok header → PutsHeader file header mid new → WritesHeader file old new
+writes file text header old mid new r h p = record {
+  cause = has_header file text header old mid r h;
+  content = of_header file header old mid new (λ x a b. b ≡ insert a (header_path file) x) (read_gives file text old mid (Ok header) r h) r.content p.content;
+  calls = calls_joined old.calls mid.calls new.calls 1 1 r.calls p.calls;
+}
+
+tears : (file text header : List ℕ) (old mid new : FilesSeen) → Read file text old mid → header_in file text ≡ Ok header → TearsFile file header mid new → TearsHeader file old new
+tears file text header old mid new r h p = record {
+  cause = has_header file text header old mid r h;
+  failed = Rose-earlier old.faults mid.faults new.faults r.later p.cause;
+  content = of_header file header old mid new (λ x a b. IsTornWrite a b (header_path file) x) (read_gives file text old mid (Ok header) r h) r.content p.content;
+  calls = calls_joined old.calls mid.calls new.calls 1 1 r.calls p.calls;
+}
+
+wants_memory : (file text : List ℕ) (old mid new : FilesSeen) → Read file text old mid → new ≡ mid → WantsMemory old new
+wants_memory file text old mid new r e = record {
+  content = ap (λ (s : FilesSeen). s.content) e ∙ r.content;
+  calls = subst (λ (s : FilesSeen). Calls old s 1) (sym e) r.calls;
+}
+
+pub header_ends : (file text header : List ℕ) (files mid : FilesSeen) (out : SinkSeen) (new : World) (status : Status) → Read file text files mid → header_in file text ≡ Ok header
+    → TellsHeader file header (record { files = mid; out = out }) new status → GenerateEnds file (record { files = files; out = out }) new status
+header_ends file text header files mid out new status r h t = ends t where
+  at : (s : Status) → status ≡ s → GenerateEnds file (record { files = files; out = out }) new s → GenerateEnds file (record { files = files; out = out }) new status
+  at s e g = subst (λ (z : Status). GenerateEnds file (record { files = files; out = out }) new z) (sym e) g
+
+  told : WritesHeader file files new.files → Tells out new.out (written_report file) Done status → GenerateEnds file (record { files = files; out = out }) new status
+  told w (inl x) = at Done x.0 (w, x.1)
+  told w (inr x) = at OutFault x.0 (inl (w, x.1))
+
+  ends : TellsHeader file header (record { files = mid; out = out }) new status → GenerateEnds file (record { files = files; out = out }) new status
+  ends (inl x) = at NoMemory x.0 (wants_memory file text files mid new.files r (ap (λ (w : World). w.files) x.1), ap (λ (w : World). w.out) x.1)
+  ends (inr (inl x)) = at FileFault x.0 (inr (tears file text header files mid new.files r h x.1), x.2)
+  ends (inr (inr x)) = told (writes file text header files mid new.files r h x.0) x.1
+
+pub refusal_ends : (file text : List ℕ) (refusal : Refusal) (files mid : FilesSeen) (out out' : SinkSeen) (status : Status) → Read file text files mid → header_in file text ≡ Err refusal
+    → TellsRefusal out out' refusal status → GenerateEnds file (record { files = files; out = out }) (record { files = mid; out = out' }) status
+refusal_ends file text refusal files mid out out' status r h t = ends t where
+  at : (s : Status) → status ≡ s → GenerateEnds file (record { files = files; out = out }) (record { files = mid; out = out' }) s → GenerateEnds file (record { files = files; out = out }) (record { files = mid; out = out' }) status
+  at s e g = subst (λ (z : Status). GenerateEnds file (record { files = files; out = out }) (record { files = mid; out = out' }) z) (sym e) g
+
+  refuses : RefusesText file refusal files mid
+  refuses = record { cause = read_gives file text files mid (Err refusal) r h; content = r.content; calls = r.calls }
+
+  ends : TellsRefusal out out' refusal status → GenerateEnds file (record { files = files; out = out }) (record { files = mid; out = out' }) status
+  ends (inl x) = at NoMemory x.0 (wants_memory file text files mid mid r refl, x.1)
+  ends (inr (inl x)) = at Refused x.0 (refusal, refuses, x.1)
+  ends (inr (inr x)) = at OutFault x.0 (inr (refusal, refuses, x.1))

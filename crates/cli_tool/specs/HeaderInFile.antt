@@ -1,0 +1,55 @@
+-- What the text of a file gives: the header of its database, or a refusal.
+use Rattle.std.specs.Prelude.{ℕ, ◌+◌, Bool, true, not, ◌&&◌, nat_lt, if◌then◌else◌, List, [], ◌∷◌, ◌++◌, map, length, codes, Result, Ok, Err}
+use Rattle.std.specs.List.{list_any}
+use Rattle.std.specs.Str.{bytes_eq}
+use Rattle.std.specs.Fmt.{decimal}
+use Rattle.can_model.specs.declared.database.Database.{Database}
+use Rattle.can_model.specs.declared.refusal.TextKind.TheVariants.{TooLarge, NotYet}
+use Rattle.can_model.specs.Refusal.{Refusal, number_of, name_of}
+use Rattle.dbc_reader.specs.declared.statement.Statement.{Statement}
+use Rattle.dbc_reader.specs.Reading.{statements_of}
+use Rattle.dbc_build.specs.DatabaseOfStatements.{database_of}
+use Rattle.name_rules.specs.Identifier.{identifier_of}
+use Rattle.cli_tool.specs.FileName.{database_name, is_sym}
+use Rattle.cli_tool.specs.Header.{header_text}
+
+-- no two are equal
+abbrev pub are_distinct : List (List ℕ) → Bool
+are_distinct [] = true
+are_distinct (x ∷ xs) = not (list_any (bytes_eq x) xs) && are_distinct xs
+
+-- a text that is longer than a database's may be, and what is not read in this version
+abbrev pub too_large : Refusal
+too_large = record { kind = TooLarge; line = 0 }
+
+abbrev pub not_yet : Refusal
+not_yet = record { kind = NotYet; line = 0 }
+
+-- messages whose identifiers are equal would share their macros' names
+abbrev pub identifiers_of : Database → List (List ℕ)
+identifiers_of db = map (λ m. identifier_of m.name) db.messages
+
+abbrev pub named_apart : Database → Result Database Refusal
+named_apart db = if are_distinct (identifiers_of db) then Ok db else Err not_yet
+
+abbrev pub database_of_read : Result (List Statement) Refusal → Result Database Refusal
+database_of_read (Ok statements) = named_apart (database_of statements)
+database_of_read (Err refusal) = Err not_yet
+
+-- the database in a file, by its name and its text, which may have so many bytes
+abbrev pub database_within : ℕ → List ℕ → List ℕ → Result Database Refusal
+database_within limit file text =
+    if nat_lt limit (length text) then Err too_large
+    else if is_sym file then Err not_yet
+    else database_of_read (statements_of text)
+
+abbrev pub header_of_database : List ℕ → Result Database Refusal → Result (List ℕ) Refusal
+header_of_database file (Ok db) = Ok (header_text (database_name file) db.messages)
+header_of_database file (Err refusal) = Err refusal
+
+abbrev pub header_within : ℕ → List ℕ → List ℕ → Result (List ℕ) Refusal
+header_within limit file text = header_of_database file (database_within limit file text)
+
+-- the header of the database in a file
+unfoldable pub header_in : List ℕ → List ℕ → Result (List ℕ) Refusal
+header_in file text = header_within 8388608 file text

@@ -1,0 +1,67 @@
+//! What the name of a file says.
+ghost use Rattle.std.specs.Prelude.{◌≡◌, ◌≤◌, ◌-◌, not, ◌==◌, length, drop, map, IfOk};
+ghost use Rattle.std.specs.Char.{to_ascii_lowercase};
+ghost use Rattle.std.specs.List.{suffix_len};
+ghost use Rattle.cli_tool.specs.FileName.{base_name, up_to_last, stem_of, database_name, header_path, is_sym};
+
+use cg_out::{Memory, Text};
+use name_rules::identifier;
+use std::alloc::Global;
+
+/// How many bytes stand up to and with the last that equals the mark.
+fn up_to_last_of(mark: u8, bytes: &[u8]) -> usize
+    ensures value { result ≡ up_to_last mark bytes.now }
+    ensures within { result ≤ length bytes.now }
+{
+    let mut end = bytes.len();
+    while end > 0 && bytes[end - 1] != mark {
+        end -= 1;
+    }
+    end
+}
+
+fn base(path: &[u8]) -> &[u8]
+    ensures { result.now ≡ base_name path.now }
+{
+    &path[up_to_last_of(b'/', path)..]
+}
+
+fn stem(base: &[u8]) -> &[u8]
+    ensures { result.now ≡ stem_of base.now }
+{
+    let end = up_to_last_of(b'.', base);
+    if end > 1 { &base[..end - 1] } else { base }
+}
+
+/// The name of the database in a file: the identifier of the bytes after the last `/` and before
+/// the last `.` that is not the first of them.
+#[tactic(auto, unfolding(crate::specs::FileName::database_name))]
+pub fn name(alloc: Global, path: &[u8]) -> Result<Text, Memory>
+    ensures { IfOk result (λ t. t ≡ database_name path.now) }
+{
+    identifier(alloc, stem(base(path)))
+}
+
+/// The file that the header is written to.
+#[tactic(auto, unfolding(crate::specs::FileName::header_path))]
+pub fn header_file(alloc: Global, path: &[u8]) -> Result<Vec<u8>, Memory>
+    ensures { IfOk result (λ v. v.items ≡ header_path path.now) }
+{
+    let name = name(alloc, path)?;
+    let mut file = Vec::from_slice(alloc, name.bytes())?;
+    file.extend_from_slice(b".h")?;
+    Ok(file)
+}
+
+/// Whether the path is that of a SYM file.
+pub fn names_sym(path: &[u8]) -> bool
+    ensures { result ≡ is_sym path.now }
+{
+    last_four(path).eq_ignore_ascii_case(b".sym")
+}
+
+fn last_four(bytes: &[u8]) -> &[u8]
+    ensures { result.now ≡ drop (length bytes.now - 4) bytes.now }
+{
+    &bytes[bytes.len().saturating_sub(4)..]
+}

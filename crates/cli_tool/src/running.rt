@@ -1,0 +1,132 @@
+//! The top call.
+ghost use Rattle.std.specs.Prelude.{◌≡◌, ◌≤◌};
+ghost use Rattle.std.specs.Option.{option_copied};
+ghost use Rattle.cli_tool.specs.Command.{file_of};
+ghost use Rattle.cli_tool.specs.World.{files_seen, sink_seen, world, KeepsCounts};
+ghost use Rattle.cli_tool.specs.Telling.{TellsHeader};
+ghost use Rattle.cli_tool.specs.Endings.{GenerateEnds, Ends};
+ghost use Rattle.cli_tool.specs.Causes.{CompletesEach, RefusesEach, AnswersEach};
+
+use crate::naming::header_file;
+use crate::planning::{Plan, planned};
+use crate::reporting::{refuse, tell, usage, written};
+use crate::status::Status;
+use crate::word::Word;
+use can_model::TEXT_LIMIT;
+use cg_out::{Failed, Files, Memory, ReadFault, Sink};
+use std::alloc::Global;
+
+/// Runs the command that the words (the command line without the program's name) are, over these
+/// files, and reports to the sink.
+///
+/// `generate_c_source FILE` reads a DBC text and writes the header `NAME.h` of its messages' frame
+/// constants, where NAME is the identifier of FILE's name without folders and ending. All other
+/// words are `Status::Usage`.
+pub fn run<F: Files, O: Sink>(alloc: Global, words: &[Word], files: &mut F, out: &mut O) -> Status
+    ensures ends { Ends words.now
+        (world (files_seen (F.content files.old) (F.faults files.old) (F.calls files.old)) (sink_seen (O.written out.old) (O.faults out.old) (O.calls out.old)))
+        (world (files_seen (F.content files.new) (F.faults files.new) (F.calls files.new)) (sink_seen (O.written out.new) (O.faults out.new) (O.calls out.new)))
+        result }
+    ensures counts { KeepsCounts
+        (world (files_seen (F.content files.old) (F.faults files.old) (F.calls files.old)) (sink_seen (O.written out.old) (O.faults out.old) (O.calls out.old)))
+        (world (files_seen (F.content files.new) (F.faults files.new) (F.calls files.new)) (sink_seen (O.written out.new) (O.faults out.new) (O.calls out.new))) }
+
+    // What must come where the outside does not fail.
+    ensures completes { CompletesEach words.now
+        (world (files_seen (F.content files.old) (F.faults files.old) (F.calls files.old)) (sink_seen (O.written out.old) (O.faults out.old) (O.calls out.old)))
+        (world (files_seen (F.content files.new) (F.faults files.new) (F.calls files.new)) (sink_seen (O.written out.new) (O.faults out.new) (O.calls out.new)))
+        result }
+    ensures refuses { RefusesEach words.now
+        (world (files_seen (F.content files.old) (F.faults files.old) (F.calls files.old)) (sink_seen (O.written out.old) (O.faults out.old) (O.calls out.old)))
+        (world (files_seen (F.content files.new) (F.faults files.new) (F.calls files.new)) (sink_seen (O.written out.new) (O.faults out.new) (O.calls out.new)))
+        result }
+    ensures answers { AnswersEach words.now result }
+{
+    run_command(alloc, words, files, out)
+}
+
+fn run_command<F: Files, O: Sink>(
+    alloc: Global,
+    words: &[Word],
+    files: &mut F,
+    out: &mut O,
+) -> Status
+    ensures ends { Ends words.now
+        (world (files_seen (F.content files.old) (F.faults files.old) (F.calls files.old)) (sink_seen (O.written out.old) (O.faults out.old) (O.calls out.old)))
+        (world (files_seen (F.content files.new) (F.faults files.new) (F.calls files.new)) (sink_seen (O.written out.new) (O.faults out.new) (O.calls out.new)))
+        result }
+    ensures files_later { F.faults files.old ≤ F.faults files.new }
+    ensures out_later { O.faults out.old ≤ O.faults out.new }
+{
+    match file_to_generate(words) {
+        Some(file) => generate_c_source(alloc, file.as_bytes(), files, out),
+        None => tell(out, usage(), Status::Usage),
+    }
+}
+
+/// The word after `generate_c_source`, where there is no other.
+fn file_to_generate(words: &[Word]) -> Option<&str>
+    ensures { option_copied result ≡ file_of words.now }
+{
+    match words {
+        [command, file] => {
+            if command.text() == "generate_c_source" {
+                Some(file.text())
+            } else {
+                None
+            }
+        }
+        _ => None,
+    }
+}
+
+/// Writes the header of the database in a file.
+fn generate_c_source<F: Files, O: Sink>(
+    alloc: Global,
+    file: &[u8],
+    files: &mut F,
+    out: &mut O,
+) -> Status
+    ensures ends { GenerateEnds file.now
+        (world (files_seen (F.content files.old) (F.faults files.old) (F.calls files.old)) (sink_seen (O.written out.old) (O.faults out.old) (O.calls out.old)))
+        (world (files_seen (F.content files.new) (F.faults files.new) (F.calls files.new)) (sink_seen (O.written out.new) (O.faults out.new) (O.calls out.new)))
+        result }
+    ensures files_later { F.faults files.old ≤ F.faults files.new }
+    ensures out_later { O.faults out.old ≤ O.faults out.new }
+{
+    let mut text = Vec::new(alloc);
+    match files.read(file, TEXT_LIMIT, &mut text) {
+        Ok(()) => {}
+        Err(ReadFault::Memory) => return Status::NoMemory,
+        Err(_) => return Status::FileFault,
+    }
+    match planned(alloc, file, &text) {
+        Ok(Plan::Write(header)) => write_header(alloc, file, &header, files, out),
+        Ok(Plan::Refuse(kind, line)) => refuse(alloc, out, kind, line),
+        Err(Memory) => Status::NoMemory,
+    }
+}
+
+/// Writes the header's file and reports its name; all that takes memory comes before the write.
+fn write_header<F: Files, O: Sink>(
+    alloc: Global,
+    file: &[u8],
+    header: &[u8],
+    files: &mut F,
+    out: &mut O,
+) -> Status
+    ensures told { TellsHeader file.now header.now
+        (world (files_seen (F.content files.old) (F.faults files.old) (F.calls files.old)) (sink_seen (O.written out.old) (O.faults out.old) (O.calls out.old)))
+        (world (files_seen (F.content files.new) (F.faults files.new) (F.calls files.new)) (sink_seen (O.written out.new) (O.faults out.new) (O.calls out.new)))
+        result }
+    ensures files_later { F.faults files.old ≤ F.faults files.new }
+    ensures out_later { O.faults out.old ≤ O.faults out.new }
+{
+    let (Ok(target), Ok(report)) = (header_file(alloc, file), written(alloc, file)) else {
+        return Status::NoMemory;
+    };
+    match files.write(&target, header) {
+        Ok(()) => tell(out, &report, Status::Done),
+        Err(Failed) => Status::FileFault,
+    }
+}

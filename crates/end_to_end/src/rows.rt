@@ -1,0 +1,221 @@
+//! The rows.
+use crate::table::{Row, check, plain};
+use cg_out::{Entry, Failing, MemoryFiles, MemorySink, Text};
+use cli_tool::{Status, Word, run};
+use std::alloc::Global;
+use std::test::Fail;
+
+const CAN: &[u8] = b"VERSION \"\"\nBU_: X\nBO_ 291 Ping: 2 X\nBO_ 2147483649 Pong: 0 X\n";
+
+const CAN_HEADER: &[u8] = b"/* Generated from a CAN database. Do not edit. */
+
+#ifndef CAN_H
+#define CAN_H
+
+#include <stdbool.h>
+#include <stddef.h>
+#include <stdint.h>
+
+#ifndef EINVAL
+#define EINVAL 22
+#endif
+
+/* Message Ping */
+#define CAN_PING_FRAME_ID (0x123u)
+#define CAN_PING_LENGTH (2u)
+#define CAN_PING_IS_EXTENDED (0)
+
+/* Message Pong */
+#define CAN_PONG_FRAME_ID (0x1u)
+#define CAN_PONG_LENGTH (0u)
+#define CAN_PONG_IS_EXTENDED (1)
+
+#endif
+";
+
+const NIL_HEADER: &[u8] = b"/* Generated from a CAN database. Do not edit. */
+
+#ifndef NIL_H
+#define NIL_H
+
+#include <stdbool.h>
+#include <stddef.h>
+#include <stdint.h>
+
+#ifndef EINVAL
+#define EINVAL 22
+#endif
+
+#endif
+";
+
+const SHOWN_HEADER: &[u8] = b"/* Generated from a CAN database. Do not edit. */
+
+#ifndef MY_BUS_V2_H
+#define MY_BUS_V2_H
+
+#include <stdbool.h>
+#include <stddef.h>
+#include <stdint.h>
+
+#ifndef EINVAL
+#define EINVAL 22
+#endif
+
+/* Message EngineData1 */
+#define MY_BUS_V2_ENGINE_DATA1_FRAME_ID (0x1fffffffu)
+#define MY_BUS_V2_ENGINE_DATA1_LENGTH (8u)
+#define MY_BUS_V2_ENGINE_DATA1_IS_EXTENDED (1)
+
+#endif
+";
+
+const TRUCK: &[u8] = b"VERSION \"\"\n\nNS_ :\n\tNS_DESC_\n\tCM_\n\nBS_:\n\nBU_: Engine Gateway\n";
+
+const NOT_YET: &[u8] = b"refused 25 NotYet line 0\n";
+
+#[test]
+fn headers_are_written(rt: HostRuntime) -> Result<(), Fail> {
+    let row = plain(
+        "generate_c_source can.dbc",
+        &[("can.dbc", CAN)],
+        Status::Done,
+        b"can.h\n",
+        &[
+            ("can.h", Some(CAN_HEADER)),
+            ("can.dbc", Some(CAN)),
+            ("can.c", None),
+        ],
+    );
+    check(&rt, rt.alloc(), &row)?;
+    let row = plain(
+        "generate_c_source nil.dbc",
+        &[("nil.dbc", b""), ("nil.h", b"old"), ("other.h", b"stays")],
+        Status::Done,
+        b"nil.h\n",
+        &[("nil.h", Some(NIL_HEADER)), ("other.h", Some(b"stays"))],
+    );
+    check(&rt, rt.alloc(), &row)?;
+    let row = plain(
+        "generate_c_source in/.a/My-Bus.v2.dbc",
+        &[(
+            "in/.a/My-Bus.v2.dbc",
+            b"\xef\xbb\xbfBO_ 2684354559 EngineData1: 8.0 BO_\r\nBO_ 3221225472 VECTOR__INDEPENDENT_SIG_MSG: 0 Vector__XXX",
+        )],
+        Status::Done,
+        b"my_bus_v2.h\n",
+        &[("my_bus_v2.h", Some(SHOWN_HEADER))],
+    );
+    check(&rt, rt.alloc(), &row)
+}
+
+#[test]
+fn texts_are_refused(rt: HostRuntime) -> Result<(), Fail> {
+    for (file, text) in [
+        ("truck.dbc", TRUCK),
+        ("pump.sym", CAN),
+        ("pump.SyM", b""),
+        ("equal.dbc", b"BO_ 1 AB: 1 X BO_ 2 Ab: 1 X BO_ 3 aB: 1 X"),
+        (
+            "signal.dbc",
+            b"BO_ 1 A: 8 X\n SG_ S : 0|8@1+ (1,0) [0|0] \"\" X",
+        ),
+        ("byte.dbc", b"BO_ 1 A: 8 X %"),
+        ("cut.dbc", b"BO_ 1 A: 8"),
+    ] {
+        let words = format!(in rt.alloc(); "generate_c_source {file}")?;
+        let files = [(file, text)];
+        let left = [(file, Some(text))];
+        let row = plain(&words, &files, Status::Refused, NOT_YET, &left);
+        check(&rt, rt.alloc(), &row)?;
+    }
+    Ok(())
+}
+
+#[test]
+fn words_and_the_outside_fail(rt: HostRuntime) -> Result<(), Fail> {
+    for words in [
+        "",
+        "generate_c_source",
+        "generate_c_source can.dbc can.dbc",
+        "generate can.dbc",
+        "can.dbc generate_c_source",
+    ] {
+        let row = plain(
+            words,
+            &[("can.dbc", CAN)],
+            Status::Usage,
+            b"cantoolc: wrong words\n",
+            &[("can.h", None)],
+        );
+        check(&rt, rt.alloc(), &row)?;
+    }
+    let row = plain(
+        "generate_c_source absent.dbc",
+        &[("can.dbc", CAN)],
+        Status::FileFault,
+        b"",
+        &[("absent.h", None)],
+    );
+    check(&rt, rt.alloc(), &row)?;
+    let words = "generate_c_source can.dbc";
+    let files = [("can.dbc", CAN), ("can.h", b"old")];
+    let row = Row {
+        words,
+        files: &files,
+        failing: &[Failing { call: 2, keep: 10 }],
+        sink_failing: &[],
+        status: Status::FileFault,
+        report: b"",
+        left: &[("can.h", Some(b"/* Generat"))],
+    };
+    check(&rt, rt.alloc(), &row)?;
+    let row = Row {
+        words,
+        files: &files,
+        failing: &[Failing { call: 1, keep: 10 }],
+        sink_failing: &[],
+        status: Status::FileFault,
+        report: b"",
+        left: &[("can.h", Some(b"old"))],
+    };
+    check(&rt, rt.alloc(), &row)?;
+    let row = Row {
+        words,
+        files: &files,
+        failing: &[],
+        sink_failing: &[Failing { call: 1, keep: 4 }],
+        status: Status::OutFault,
+        report: b"can.",
+        left: &[("can.h", Some(CAN_HEADER))],
+    };
+    check(&rt, rt.alloc(), &row)
+}
+
+/// A text of so many blanks.
+fn blanks(alloc: Global, count: usize) -> Result<Text, Fail> {
+    Ok(Text::from(vec![in alloc; b' '; count]?))
+}
+
+#[test]
+fn the_limit_is_exact(rt: HostRuntime) -> Result<(), Fail> {
+    let alloc = rt.alloc();
+    let mut words = Vec::new(alloc);
+    for word in ["generate_c_source", "nil.dbc"] {
+        words.push(Word::new(String::from_str(alloc, word)?))?;
+    }
+    for (length, status, report) in [
+        (8_388_608, Status::Done, b"nil.h\n".as_slice()),
+        (8_388_609, Status::Refused, b"refused 5 TooLarge line 0\n"),
+    ] {
+        let entries = [Entry {
+            name: Text::copy_of(alloc, b"nil.dbc")?,
+            bytes: blanks(alloc, length)?,
+        }];
+        let mut files = MemoryFiles::new(alloc, &entries, 4096, &[])?;
+        let mut out = MemorySink::new(alloc, 100, &[])?;
+        assert_eq!(rt; run(alloc, &words, &mut files, &mut out), status);
+        assert_eq!(rt; out.bytes(), report);
+    }
+    Ok(())
+}
