@@ -1,13 +1,13 @@
 -- Each other way to end has a cause that the premises rule out.
-use Rattle.std.proofs.Common.{◌≡◌, ◌⊎◌, inl, inr, ℕ, List, Result, Ok, Err, refl, sym, ap, subst, ◌∙◌}
-use Rattle.std.specs.Prelude.{IfSome, IsSomeAnd, IsOk, is_ok}
+use Rattle.std.proofs.Common.{◌≡◌, ◌⊎◌, inl, inr, ℕ, List, Result, Ok, Err, refl, sym, subst, ◌∙◌}
+use Rattle.std.specs.Prelude.{IfSome, IsSomeAnd, IsOk}
 use Rattle.std.specs.declared.option.Option.{Option}
 use Rattle.std.specs.declared.option.Option.TheVariants.{None, Some}
 use Rattle.std.specs.FinMap.{get}
 use Rattle.can_model.specs.Refusal.{Refusal}
 use Rattle.cg_out.specs.Outside.{Folder, Rose}
-use Rattle.cli_tool.specs.Command.{Command, generate_c_source, command_of}
-use Rattle.cli_tool.specs.World.{World, FilesSeen, OfText}
+use Rattle.cli_tool.specs.Command.{Command}
+use Rattle.cli_tool.specs.World.{World}
 use Rattle.cli_tool.specs.HeaderInFile.{header_in}
 use Rattle.cli_tool.specs.Endings.{GenerateEnds, UsageEnds, CommandEnds, Ends, FailsToRead}
 use Rattle.cli_tool.specs.Causes.{AsksFor, CompletesEach, RefusesEach, AnswersEach}

@@ -1,5 +1,5 @@
 -- The steps of a run, joined: what was read, what its text gives, and what was told.
-use Rattle.std.proofs.Common.{◌≡◌, ◌⊎◌, inl, inr, ℕ, ◌+◌, ◌<◌, ◌≤◌, Bool, true, false, ltb, List, [], ◌++◌, length, take, Result, Ok, Err, refl, sym, ap, subst, ◌∙◌, arith, length-take}
+use Rattle.std.proofs.Common.{◌≡◌, inl, inr, ℕ, ◌+◌, ◌≤◌, true, ltb, List, [], ◌++◌, length, take, Result, Ok, Err, refl, sym, ap, subst, ◌∙◌, arith, length-take}
 use Rattle.std.specs.Prelude.{IfSome, IsSomeAnd, IsOk, is_ok}
 use Rattle.std.specs.declared.option.Option.{Option}
 use Rattle.std.specs.declared.option.Option.TheVariants.{None, Some}
@@ -8,10 +8,10 @@ use Rattle.std.proofs.lemmas.Bool.{cases_lt, lt-ltb}
 use Rattle.std.proofs.lemmas.List.{take_all}
 use Rattle.can_model.specs.Refusal.{Refusal}
 use Rattle.cg_out.specs.Outside.{Folder, Rose, IfTold, IsTornWrite, Reads}
-use Rattle.cli_tool.specs.World.{FilesSeen, SinkSeen, World, OfText, Calls, Reports, TearsReport}
+use Rattle.cli_tool.specs.World.{FilesSeen, SinkSeen, World, OfText, Calls}
 use Rattle.cli_tool.specs.FileName.{header_path}
 use Rattle.cli_tool.specs.HeaderInFile.{header_in, header_within}
-use Rattle.cli_tool.specs.Report.{written_report, refusal_report}
+use Rattle.cli_tool.specs.Report.{written_report}
 use Rattle.cli_tool.specs.Telling.{Tells, TellsRefusal, PutsHeader, TearsFile, TellsHeader}
 use Rattle.cli_tool.specs.Endings.{GenerateEnds, OfHeader, HasHeader, WritesHeader, TearsHeader, RefusesText, WantsMemory}
 use Rattle.cli_tool.specs.declared.status.Status.{Status}

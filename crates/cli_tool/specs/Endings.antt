@@ -1,12 +1,12 @@
 -- How a run may end: for each command and each status, what stands in the outside afterwards, and why.
-use Rattle.std.specs.Prelude.{◌≡◌, ◌⊎◌, ℕ, ◌+◌, List, IsSomeAnd, IsOk, Result, Ok, Err}
+use Rattle.std.specs.Prelude.{◌≡◌, ◌⊎◌, ℕ, List, IsSomeAnd, IsOk, Ok, Err}
 use Rattle.std.specs.declared.option.Option.{Option}
 use Rattle.std.specs.declared.option.Option.TheVariants.{None, Some}
 use Rattle.std.specs.FinMap.{get, insert}
 use Rattle.can_model.specs.Refusal.{Refusal}
 use Rattle.cg_out.specs.Outside.{Folder, Rose, IfTold, IsTornWrite}
 use Rattle.cli_tool.specs.Command.{Command, generate_c_source, command_of}
-use Rattle.cli_tool.specs.World.{FilesSeen, SinkSeen, World, OfText, Calls, Reports, TearsReport}
+use Rattle.cli_tool.specs.World.{FilesSeen, World, OfText, Calls, Reports, TearsReport}
 use Rattle.cli_tool.specs.FileName.{header_path}
 use Rattle.cli_tool.specs.HeaderInFile.{header_in}
 use Rattle.cli_tool.specs.Report.{usage_report, written_report, refusal_report}

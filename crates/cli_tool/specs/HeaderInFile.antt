@@ -1,11 +1,10 @@
 -- What the text of a file gives: the header of its database, or a refusal.
-use Rattle.std.specs.Prelude.{ℕ, ◌+◌, Bool, true, not, ◌&&◌, nat_lt, if◌then◌else◌, List, [], ◌∷◌, ◌++◌, map, length, codes, Result, Ok, Err}
+use Rattle.std.specs.Prelude.{ℕ, Bool, true, not, ◌&&◌, nat_lt, if◌then◌else◌, List, [], ◌∷◌, map, length, Result, Ok, Err}
 use Rattle.std.specs.List.{list_any}
 use Rattle.std.specs.Str.{bytes_eq}
-use Rattle.std.specs.Fmt.{decimal}
 use Rattle.can_model.specs.declared.database.Database.{Database}
 use Rattle.can_model.specs.declared.refusal.TextKind.TheVariants.{TooLarge, NotYet}
-use Rattle.can_model.specs.Refusal.{Refusal, number_of, name_of}
+use Rattle.can_model.specs.Refusal.{Refusal}
 use Rattle.dbc_reader.specs.declared.statement.Statement.{Statement}
 use Rattle.dbc_reader.specs.Reading.{statements_of}
 use Rattle.dbc_build.specs.DatabaseOfStatements.{database_of}

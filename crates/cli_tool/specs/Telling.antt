@@ -1,5 +1,5 @@
 -- How the last steps of a run may end: a report, a refusal, and a header with its report.
-use Rattle.std.specs.Prelude.{◌≡◌, ◌⊎◌, ℕ, ◌≤◌, List}
+use Rattle.std.specs.Prelude.{◌≡◌, ◌⊎◌, ℕ, List}
 use Rattle.std.specs.FinMap.{insert}
 use Rattle.can_model.specs.Refusal.{Refusal}
 use Rattle.cg_out.specs.Outside.{Rose, IfTold, IsTornWrite}

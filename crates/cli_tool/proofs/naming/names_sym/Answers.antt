@@ -1,5 +1,5 @@
 -- The comparison of the last four bytes decides one fact, by either word.
-use Rattle.std.proofs.Common.{◌≡◌, ℕ, List, ◌-◌, length, drop, map}
+use Rattle.std.proofs.Common.{◌≡◌, ◌-◌, length, drop, map}
 use Rattle.std.specs.Prelude.{codes}
 use Rattle.std.specs.Bool.{Decides, one_answer}
 use Rattle.std.specs.Str.{bytes_eq}

@@ -1,13 +1,11 @@
 -- The names from the end on are told apart by the set, one more at each turn.
-use Rattle.std.proofs.Common.{◌≡◌, ℕ, ◌-◌, ◌<◌, Bool, true, false, not, List, ◌∷◌, map, drop, get_or, sym, ap, ◌∙◌, arith}
+use Rattle.std.proofs.Common.{◌≡◌, ℕ, ◌<◌, true, false, List, map, drop, sym, ap, ◌∙◌, arith}
 use Rattle.std.specs.List.{list_any}
 use Rattle.std.specs.Str.{bytes_eq}
-use Rattle.std.specs.Global.{Vec}
-use Rattle.std.specs.BTreeSet.{contains}
 use Rattle.can_model.specs.declared.database.Message.{Message}
 use Rattle.name_rules.specs.Identifier.{identifier_of}
 use Rattle.std.proofs.lemmas.Bool.Decides.{nat_tests}
-use Rattle.cli_tool.proofs.OwnNames.{by_bytes, seen-cons, names-step, apart-step, not_apart, not_true, not_false}
+use Rattle.cli_tool.proofs.OwnNames.{seen-cons, names-step, apart-step, not_apart, not_true, not_false}
 use Rattle.cli_tool.proofs.planning.have_own_names.Goals as goal
 
 pub loop-at-preserved : goal.loop-at-preserved

@@ -1,10 +1,10 @@
 -- What was read and what its text gives, through the lemmas that join the steps.
-use Rattle.std.proofs.Common.{◌≡◌, ℕ, List, Ok, Err, sym, ap, subst, ◌∙◌}
-use Rattle.cli_tool.specs.World.{FilesSeen, SinkSeen, World, files_seen, sink_seen, world}
+use Rattle.std.proofs.Common.{ℕ, List, Ok, sym, ap, subst, ◌∙◌}
+use Rattle.cli_tool.specs.World.{FilesSeen, SinkSeen, files_seen, sink_seen, world}
 use Rattle.cli_tool.specs.HeaderInFile.{header_in}
 use Rattle.cli_tool.specs.Plan.{Does}
 use Rattle.cli_tool.specs.declared.planning.Plan.{Plan}
-use Rattle.cli_tool.proofs.Endings.{Read, read_of, header_ends, refusal_ends}
+use Rattle.cli_tool.proofs.Endings.{read_of, header_ends, refusal_ends}
 use Rattle.cli_tool.proofs.running.generate_c_source.Goals as goal
 
 pub returns-in-Ok-Write-clause-ends : goal.returns-in-Ok-Write-clause-ends
