@@ -1,4 +1,4 @@
-//! The worked rows of the whole program: `cli_tool::run` over files and a sink in memory.
+//! Rows over the whole program: `cli_tool::run` over files and a sink in memory.
 #![tactic(auto)]
 
 #[cfg(test)]

@@ -7,7 +7,7 @@ use std::test::Fail;
 
 /// A run over files in memory: what it is given, and what is to come.
 #[derive(Clone, Copy)]
-pub struct Row<'a> {
+pub(super) struct Row<'a> {
     /// Separated by blanks.
     pub words: &'a str,
     pub files: &'a [(&'a str, &'a [u8])],
@@ -21,7 +21,7 @@ pub struct Row<'a> {
 }
 
 /// A run of these words over one file, none of whose calls fail.
-pub fn plain<'a>(
+pub(super) fn plain<'a>(
     words: &'a str,
     files: &'a [(&'a str, &'a [u8])],
     status: Status,
@@ -40,7 +40,7 @@ pub fn plain<'a>(
 }
 
 /// Runs the row and compares.
-pub fn check(rt: &impl Abort, alloc: Global, row: &Row<'_>) -> Result<(), Fail> {
+pub(super) fn check(rt: &impl Abort, alloc: Global, row: &Row<'_>) -> Result<(), Fail> {
     let mut entries = Vec::new(alloc);
     for (name, bytes) in row.files {
         entries.push(Entry {
