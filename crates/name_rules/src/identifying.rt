@@ -1,6 +1,7 @@
 //! The identifier of a text, rule by rule.
 ghost use Rattle.std.specs.Prelude.{◌≡◌, ◌+◌, map, take, IfOk};
 ghost use Rattle.std.specs.Char.{to_ascii_lowercase};
+ghost use Rattle.name_rules.specs.IsIdentifier.{IsIdentifier};
 ghost use Rattle.name_rules.specs.Identifier.{cleaned_byte, is_break, first_or_zero, broken, unrun, without_first_line, without_last_line, begun, cut_short, identifier_of};
 
 use cg_out::{Memory, Text};
@@ -10,7 +11,8 @@ use std::alloc::{AllocError, Global};
 /// between words, at most 128 bytes, and it begins with a letter. Words are told apart by bytes
 /// that are no letter or digit and by their capitals: `ABCDef9X` gives `abc_def9_x`.
 pub fn identifier(alloc: Global, text: &[u8]) -> Result<Text, Memory>
-    ensures { IfOk result (λ t. t ≡ identifier_of text.now) }
+    ensures exact { IfOk result (λ t. t ≡ identifier_of text.now) }
+    ensures shape { IfOk result IsIdentifier }
 {
     let clean = cleaned(alloc, text)?;
     let words = with_breaks(alloc, &clean)?;
