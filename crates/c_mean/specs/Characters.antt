@@ -1,5 +1,6 @@
 -- The characters that tokens begin and go on with (ISO/IEC 9899:1999, 5.2.1 and 6.4).
-use Rattle.std.specs.Prelude.{ℕ, Bool, true, false, ◌||◌, ◌&&◌, ◌==◌, nat_le, List, [], ◌∷◌}
+use Rattle.std.specs.Prelude.{◌≡◌, ℕ, Bool, true, false, ◌||◌, ◌&&◌, ◌==◌, nat_le, List, [], ◌∷◌}
+use Rattle.std.specs.List.{AllByRecursion}
 
 -- the end of a line
 abbrev pub is_line_end : ℕ → Bool
@@ -29,3 +30,12 @@ first_passes p (b ∷ bs) = p b
 -- the first byte is this one
 abbrev pub first_is : ℕ → List ℕ → Bool
 first_is c bs = first_passes (λ b. b == c) bs
+
+-- each byte passes
+abbrev pub Pass : (ℕ → Bool) → List ℕ → Type 0
+Pass p bs = AllByRecursion (λ b. p b ≡ true) bs
+
+-- a name (6.4.2.1)
+abbrev pub IsName : List ℕ → Type 0
+IsName [] = ⊥
+IsName (b ∷ bs) = (is_letter b ≡ true) × Pass goes_on bs

@@ -1,5 +1,5 @@
 -- The tokens of a text (ISO/IEC 9899:1999, 6.4): the longest match from the left.
-use Rattle.std.specs.Prelude.{ℕ, zero, suc, ◌+◌, Bool, true, false, nat_lt, if◌then◌else◌, List, [], ◌∷◌, Option, Some, None, Result, Ok, Err}
+use Rattle.std.specs.Prelude.{ℕ, zero, suc, ◌+◌, Bool, true, false, nat_lt, if◌then◌else◌, List, [], ◌∷◌, map, Option, Some, None, Result, Ok, Err}
 use Rattle.c_mean.specs.declared.place.Place.{Place}
 use Rattle.c_mean.specs.declared.token.Token.{Token}
 use Rattle.c_mean.specs.declared.token.TokenKind.{TokenKind}
@@ -71,6 +71,11 @@ pub record Bare : Type 0 where
 
 abbrev pub bare : Token → Bare
 bare t = record { kind = t.kind; fresh = t.fresh }
+
+-- what was read, but for places
+abbrev pub bare_read : Result (List Token) Refusal → Result (List Bare) CKind
+bare_read (Ok ts) = Ok (map bare ts)
+bare_read (Err e) = Err e.kind
 
 -- as `gathered`
 abbrev pub bare_gathered : Bool → List Lexeme → Result (List Bare) CKind
