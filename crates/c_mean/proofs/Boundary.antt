@@ -8,7 +8,8 @@ use Rattle.c_mean.specs.declared.token.TokenKind.TheVariants.{Word, Constant as 
 use Rattle.c_mean.specs.Characters.{is_line_end, is_blank, is_letter, is_digit, goes_on, first_passes, first_is, Pass, IsName}
 use Rattle.c_mean.specs.IntegerConstant.{constant_of}
 use Rattle.c_mean.specs.Piece.{Lexeme, token, line_end, space, bad, piece, one_more, close_at, is_exponent, is_sign, number_goes_on, number_rest, in_string}
-use Rattle.c_mean.specs.Tokens.{put, kinds}
+use Rattle.c_mean.specs.Tokens.{kinds}
+use Rattle.c_mean.specs.BareTokens.{solid}
 
 -- ---- runs of bytes
 
@@ -82,25 +83,32 @@ close_at-all : (xs rest : List ℕ) → Pass is_no_star xs → close_at (xs ++ 4
 close_at-all [] rest h = refl
 close_at-all (x ∷ xs) rest h = rw (not-true (x == 42) h.0) (ap one_more (close_at-all xs rest h.1))
 
--- a comment whose inside has no star leaves nothing
-pub kinds-comment : (xs rest : List ℕ) → Pass is_no_star xs → kinds 0 (47 ∷ 42 ∷ (xs ++ 42 ∷ 47 ∷ rest)) ≡ kinds 0 rest
-kinds-comment xs rest h = rw (close_at-all xs rest h) (rw append_assoc at (kinds-skip (xs ++ 42 ∷ 47 ∷ []) rest))
+-- a comment whose inside has no star is one piece of white space
+pub kinds-comment : (xs rest : List ℕ) → Pass is_no_star xs → kinds 0 (47 ∷ 42 ∷ (xs ++ 42 ∷ 47 ∷ rest)) ≡ space ∷ kinds 0 rest
+kinds-comment xs rest h = rw (close_at-all xs rest h) (ap (λ ls. space ∷ ls) (rw append_assoc at (kinds-skip (xs ++ 42 ∷ 47 ∷ []) rest)))
 
 abbrev pub is_in_line : ℕ → Bool
 is_in_line b = not (is_line_end b)
 
--- a comment up to the line's end leaves the line's end
-pub kinds-line_comment : (xs rest : List ℕ) → Pass is_in_line xs → kinds 0 (47 ∷ 47 ∷ (xs ++ 10 ∷ rest)) ≡ line_end ∷ kinds 0 rest
-kinds-line_comment xs rest h = rw (take_while-all is_in_line (47 ∷ xs) (10 ∷ rest) (refl, h) refl) (kinds-skip (47 ∷ xs) (10 ∷ rest))
+-- a comment up to the line's end leaves that end
+pub kinds-line_comment : (xs rest : List ℕ) → Pass is_in_line xs → kinds 0 (47 ∷ 47 ∷ (xs ++ 10 ∷ rest)) ≡ space ∷ line_end ∷ kinds 0 rest
+kinds-line_comment xs rest h = rw (take_while-all is_in_line (47 ∷ xs) (10 ∷ rest) (refl, h) refl) (ap (λ ls. space ∷ ls) (kinds-skip (47 ∷ xs) (10 ∷ rest)))
 
 -- ---- white space
 
 pub kinds-line_end : (ys : List ℕ) → kinds 0 (10 ∷ ys) ≡ line_end ∷ kinds 0 ys
 kinds-line_end ys = refl
 
-pub kinds-blank : (ys : List ℕ) → kinds 0 (32 ∷ ys) ≡ kinds 0 ys
+pub kinds-blank : (ys : List ℕ) → kinds 0 (32 ∷ ys) ≡ space ∷ kinds 0 ys
 kinds-blank ys = refl
 
-pub kinds-blanks : (n : ℕ) (rest : List ℕ) → kinds 0 (replicate n 32 ++ rest) ≡ kinds 0 rest
+pub kinds-blanks : (n : ℕ) (rest : List ℕ) → kinds 0 (replicate n 32 ++ rest) ≡ replicate n space ++ kinds 0 rest
 kinds-blanks zero rest = refl
-kinds-blanks (suc n) rest = kinds-blanks n rest
+kinds-blanks (suc n) rest = ap (λ ls. space ∷ ls) (kinds-blanks n rest)
+
+pub solid-append : (ks ls : List Lexeme) → solid (ks ++ ls) ≡ solid ks ++ solid ls
+solid-append [] ls = refl
+solid-append (token k ∷ ks) ls = ap (λ r. token k ∷ r) (solid-append ks ls)
+solid-append (line_end ∷ ks) ls = ap (λ r. line_end ∷ r) (solid-append ks ls)
+solid-append (space ∷ ks) ls = solid-append ks ls
+solid-append (bad c ∷ ks) ls = ap (λ r. bad c ∷ r) (solid-append ks ls)

@@ -1,52 +1,67 @@
--- Tokens with their places are the tokens that the text without places gives.
-use Rattle.std.proofs.Common.{◌≡◌, ℕ, zero, suc, ◌+◌, Bool, true, false, ◌||◌, ◌&&◌, ◌==◌, not, List, [], ◌∷◌, ◌++◌, map, Option, Some, None, Result, Ok, Err, refl, sym, ap, ◌∙◌}
+-- Tokens with their places are, without them, the tokens that the lexemes of the text give.
+use Rattle.std.proofs.Common.{◌≡◌, ℕ, zero, suc, ◌+◌, ◌<◌, ◌≤◌, Bool, true, false, ◌||◌, ◌&&◌, ◌==◌, not, List, [], ◌∷◌, ◌++◌, map, Option, Some, None, Result, Ok, Err, refl, sym, ap, subst, ◌∙◌, arith, eq-eqb}
+use Rattle.std.proofs.lemmas.Bool.Decides.{nat_tests}
 use Rattle.c_mean.specs.declared.place.Place.{Place}
 use Rattle.c_mean.specs.declared.token.Token.{Token}
+use Rattle.c_mean.specs.declared.token.TokenKind.{TokenKind}
 use Rattle.c_mean.specs.declared.refusal.CKind.{CKind}
 use Rattle.c_mean.specs.Refusal.{Refusal}
 use Rattle.c_mean.specs.Characters.{Pass}
 use Rattle.c_mean.specs.Splice.{line_after, first_splice}
 use Rattle.c_mean.specs.Piece.{Lexeme, token, line_end, space, bad, piece}
-use Rattle.c_mean.specs.Tokens.{put, kinds, Placed, put_at, scan, onto, gathered, tokens, unless_spliced, Bare, bare, bare_read, bare_gathered}
+use Rattle.c_mean.specs.Tokens.{kinds, Placed, scan, onto, gathered, tokens, unless_spliced}
+use Rattle.c_mean.specs.BareTokens.{Bare, bares, bare_read, bare_gathered}
 
 -- ---- lexemes
 
 abbrev pub lexeme : Placed → Lexeme
 lexeme l = l.0
 
-put_at-lexeme : (l : Lexeme) (p : Place) (ls : List Placed) → map lexeme (put_at l p ls) ≡ put l (map lexeme ls)
-put_at-lexeme (token k) p ls = refl
-put_at-lexeme line_end p ls = refl
-put_at-lexeme space p ls = refl
-put_at-lexeme (bad c) p ls = refl
-
 pub scan-kinds : (header : Bool) (skip line at : ℕ) (bs : List ℕ) → map lexeme (scan header skip line at bs) ≡ kinds skip bs
 scan-kinds header skip line at [] = refl
 scan-kinds header (suc k) line at (b ∷ bs) = scan-kinds header k (line_after line b) (at + 1) bs
-scan-kinds header zero line at (b ∷ bs) =
-    put_at-lexeme (piece b bs).0 _ (scan header (piece b bs).1 (line_after line b) (at + 1) bs)
-    ∙ ap (put (piece b bs).0) (scan-kinds header (piece b bs).1 (line_after line b) (at + 1) bs)
+scan-kinds header zero line at (b ∷ bs) = ap (λ ls. (piece b bs).0 ∷ ls) (scan-kinds header (piece b bs).1 (line_after line b) (at + 1) bs)
+
+-- each lexeme begins where the one before ends
+abbrev pub Follow : ℕ → List Placed → Type 0
+Follow at [] = Unit {0}
+Follow at ((l, p) ∷ ls) = (p.start ≡ at) × (at < p.end) × Follow p.end ls
+
+pub scan-follow : (header : Bool) (skip line at : ℕ) (bs : List ℕ) → Follow (at + skip) (scan header skip line at bs)
+scan-follow header skip line at [] = tt
+scan-follow header (suc k) line at (b ∷ bs) =
+    let e : at + 1 + k ≡ at + suc k = omega arith in
+    subst (λ n. Follow n (scan header k (line_after line b) (at + 1) bs)) e (scan-follow header k (line_after line b) (at + 1) bs)
+scan-follow header zero line at (b ∷ bs) = (omega arith, omega arith, scan-follow header (piece b bs).1 (line_after line b) (at + 1) bs)
 
 -- ---- tokens
 
-onto-bare : (t : Token) (r : Result (List Token) Refusal) → bare_read (onto t r) ≡ onto (bare t) (bare_read r)
-onto-bare t (Ok ts) = refl
-onto-bare t (Err e) = refl
+onto-bare : (end : ℕ) (t : Token) (r : Result (List Token) Refusal) → bare_read end (onto t r) ≡ onto (record { kind = t.kind; fresh = t.fresh; joined = t.place.start == end }) (bare_read t.place.end r)
+onto-bare end t (Ok ts) = refl
+onto-bare end t (Err e) = refl
 
-pub gathered-bare : (fresh : Bool) (ls : List Placed) → bare_read (gathered fresh ls) ≡ bare_gathered fresh (map lexeme ls)
-gathered-bare fresh [] = refl
-gathered-bare fresh ((token k, p) ∷ ls) =
-    onto-bare (record { kind = k; place = p; fresh = fresh }) (gathered false ls) ∙ ap (onto (record { kind = k; fresh = fresh })) (gathered-bare false ls)
-gathered-bare fresh ((line_end, p) ∷ ls) = gathered-bare true ls
-gathered-bare fresh ((space, p) ∷ ls) = gathered-bare fresh ls
-gathered-bare fresh ((bad c, p) ∷ ls) = refl
+same-place : (n : ℕ) → true ≡ (n == n)
+same-place n = sym (eq-eqb n n refl)
 
--- where no splice stands, the kinds say what the tokens are
-pub tokens-bare : (header : Bool) (text : List ℕ) → first_splice header 1 0 text ≡ None → bare_read (tokens header text) ≡ bare_gathered true (kinds 0 text)
+later : (end at to : ℕ) → end ≤ at → at < to → false ≡ (to == end)
+later end at to h k = grind (arith, nat_tests)
+
+pub gathered-bare : (fresh joined : Bool) (end at : ℕ) (ls : List Placed) → Follow at ls → end ≤ at → joined ≡ (at == end) → bare_read end (gathered fresh ls) ≡ bare_gathered fresh joined (map lexeme ls)
+gathered-bare fresh joined end at [] f h j = refl
+gathered-bare fresh joined end at ((token k, p) ∷ ls) f h j =
+    onto-bare end (record { kind = k; place = p; fresh = fresh }) (gathered false ls)
+    ∙ ap (λ r. onto (record { kind = k; fresh = fresh; joined = r }) (bare_read p.end (gathered false ls))) (ap (λ n. n == end) f.0 ∙ sym j)
+    ∙ ap (onto (record { kind = k; fresh = fresh; joined = joined })) (gathered-bare false true p.end p.end ls f.2 (omega arith) (same-place p.end))
+gathered-bare fresh joined end at ((line_end, p) ∷ ls) f h j = gathered-bare true false end p.end ls f.2 (omega arith) (later end at p.end h f.1)
+gathered-bare fresh joined end at ((space, p) ∷ ls) f h j = gathered-bare fresh false end p.end ls f.2 (omega arith) (later end at p.end h f.1)
+gathered-bare fresh joined end at ((bad c, p) ∷ ls) f h j = refl
+
+-- where no splice stands, the lexemes say what the tokens are
+pub tokens-bare : (header : Bool) (text : List ℕ) → first_splice header 1 0 text ≡ None → bare_read 0 (tokens header text) ≡ bare_gathered true true (kinds 0 text)
 tokens-bare header text e =
-    ap (λ s. bare_read (unless_spliced s (gathered true (scan header 0 1 0 text)))) e
-    ∙ gathered-bare true (scan header 0 1 0 text)
-    ∙ ap (bare_gathered true) (scan-kinds header 0 1 0 text)
+    ap (λ s. bare_read 0 (unless_spliced s (gathered true (scan header 0 1 0 text)))) e
+    ∙ gathered-bare true true 0 0 (scan header 0 1 0 text) (scan-follow header 0 1 0 text) (omega arith) refl
+    ∙ ap (bare_gathered true true) (scan-kinds header 0 1 0 text)
 
 -- ---- texts without splices
 
@@ -67,18 +82,18 @@ plain-no_splice header line at (b ∷ bs) h =
 
 -- ---- the whole
 
--- tokens that are these but for their places
+-- the text has tokens, and without their places they are these
 pub record ReadsAs (header : Bool) (text : List ℕ) (bs : List Bare) : Type 0 where
-  pub tokens_read : List Token
-  pub read : tokens header text ≡ Ok tokens_read
-  pub are : map bare tokens_read ≡ bs
+  pub list : List Token
+  pub read : tokens header text ≡ Ok list
+  pub are : bares 0 list ≡ bs
 
-ok-of : (r : Result (List Token) Refusal) (bs : List Bare) → bare_read r ≡ Ok bs → (ts : List Token) × (r ≡ Ok ts) × (map bare ts ≡ bs)
+ok-of : (r : Result (List Token) Refusal) (bs : List Bare) → bare_read 0 r ≡ Ok bs → (ts : List Token) × (r ≡ Ok ts) × (bares 0 ts ≡ bs)
 ok-of (Ok ts) bs e = (ts, refl, cc)
 ok-of (Err f) bs e = cc
 
-pub reads-as : (header : Bool) (text : List ℕ) (ls : List Lexeme) (bs : List Bare) → Pass is_plain text → kinds 0 text ≡ ls → bare_gathered true ls ≡ Ok bs → ReadsAs header text bs
+pub reads-as : (header : Bool) (text : List ℕ) (ls : List Lexeme) (bs : List Bare) → Pass is_plain text → kinds 0 text ≡ ls → bare_gathered true true ls ≡ Ok bs → ReadsAs header text bs
 reads-as header text ls bs plain k g =
-    let e = tokens-bare header text (plain-no_splice header 1 0 text plain) ∙ ap (bare_gathered true) k ∙ g in
+    let e = tokens-bare header text (plain-no_splice header 1 0 text plain) ∙ ap (bare_gathered true true) k ∙ g in
     let r = ok-of (tokens header text) bs e in
-    record { tokens_read = r.0; read = r.1; are = r.2 }
+    record { list = r.0; read = r.1; are = r.2 }

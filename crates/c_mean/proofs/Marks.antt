@@ -6,7 +6,7 @@ use Rattle.c_mean.specs.declared.token.TokenKind.TheVariants.{Mark}
 use Rattle.c_mean.specs.Characters.{first_passes}
 use Rattle.c_mean.specs.Punctuator.{mark_at}
 use Rattle.c_mean.specs.Piece.{Lexeme, token, piece}
-use Rattle.c_mean.specs.Tokens.{put, kinds}
+use Rattle.c_mean.specs.Tokens.{kinds}
 
 -- ---- members of a table
 
@@ -135,7 +135,7 @@ piece-slash c cs h = let a = apart c extending h in rw (a.1.1.1.0, a.1.1.1.1.1.1
 
 read-slash : IsReadBefore (codes "/")
 read-slash [] h = rw (at-slash [] h) refl
-read-slash (c ∷ cs) h = ap (λ p. put p.0 (kinds p.1 (c ∷ cs))) (piece-slash c cs h)
+read-slash (c ∷ cs) h = ap (λ p. p.0 ∷ kinds p.1 (c ∷ cs)) (piece-slash c cs h)
 
 at-percent : (ys : List ℕ) → first_passes extends ys ≡ false → mark_at (codes "%" ++ ys) ≡ Some (codes "%")
 unfolding mark_at

@@ -5,3 +5,9 @@ pub mod Punctuator
 pub mod Piece
 pub mod Splice
 pub mod Tokens
+pub mod BareTokens
+pub mod StandardHeader
+pub mod Directive
+pub mod MacroDefinition
+pub mod Conditional
+pub mod Preprocessing

@@ -11,33 +11,23 @@ use Rattle.c_mean.specs.Piece.{Lexeme, token, line_end, space, bad, piece}
 
 -- ---- the lexemes of a text, without their places
 
--- white space and comments leave nothing
-abbrev pub put : Lexeme → List Lexeme → List Lexeme
-put space ls = ls
-put l ls = l ∷ ls
-
 -- the lexemes behind so many bytes
 abbrev pub kinds : ℕ → List ℕ → List Lexeme
 kinds skip [] = []
 kinds (suc k) (b ∷ bs) = kinds k bs
-kinds zero (b ∷ bs) = put (piece b bs).0 (kinds (piece b bs).1 bs)
+kinds zero (b ∷ bs) = (piece b bs).0 ∷ kinds (piece b bs).1 bs
 
 -- ---- the same with their places
 
 abbrev pub Placed : Type 0
 Placed = Lexeme × Place
 
-abbrev pub put_at : Lexeme → Place → List Placed → List Placed
-put_at space p ls = ls
-put_at l p ls = (l, p) ∷ ls
-
 -- the lexemes behind so many bytes, of which the first stands on this line at this offset
 abbrev pub scan : Bool → ℕ → ℕ → ℕ → List ℕ → List Placed
 scan header skip line at [] = []
 scan header (suc k) line at (b ∷ bs) = scan header k (line_after line b) (at + 1) bs
 scan header zero line at (b ∷ bs) =
-    put_at (piece b bs).0 (record { header = header; line = line; start = at; end = at + 1 + (piece b bs).1 })
-    (scan header (piece b bs).1 (line_after line b) (at + 1) bs)
+    ((piece b bs).0, record { header = header; line = line; start = at; end = at + 1 + (piece b bs).1 }) ∷ scan header (piece b bs).1 (line_after line b) (at + 1) bs
 
 -- ---- tokens
 
@@ -62,25 +52,3 @@ unless_spliced (Some p) (Err e) = if nat_lt e.place.start p.start then Err e els
 -- the tokens of the header or of the source, or the first fault among them
 abbrev pub tokens : Bool → List ℕ → Result (List Token) Refusal
 tokens header text = unless_spliced (first_splice header 1 0 text) (gathered true (scan header 0 1 0 text))
-
--- ---- tokens without their places
-
-pub record Bare : Type 0 where
-  pub kind : TokenKind
-  pub fresh : Bool
-
-abbrev pub bare : Token → Bare
-bare t = record { kind = t.kind; fresh = t.fresh }
-
--- what was read, but for places
-abbrev pub bare_read : Result (List Token) Refusal → Result (List Bare) CKind
-bare_read (Ok ts) = Ok (map bare ts)
-bare_read (Err e) = Err e.kind
-
--- as `gathered`
-abbrev pub bare_gathered : Bool → List Lexeme → Result (List Bare) CKind
-bare_gathered fresh [] = Ok []
-bare_gathered fresh (token k ∷ ls) = onto (record { kind = k; fresh = fresh }) (bare_gathered false ls)
-bare_gathered fresh (line_end ∷ ls) = bare_gathered true ls
-bare_gathered fresh (space ∷ ls) = bare_gathered fresh ls
-bare_gathered fresh (bad c ∷ ls) = Err c
