@@ -10,7 +10,8 @@ use Rattle.c_mean.specs.Characters.{Pass}
 use Rattle.c_mean.specs.Splice.{line_after, first_splice}
 use Rattle.c_mean.specs.Piece.{Lexeme, token, line_end, space, bad, piece}
 use Rattle.c_mean.specs.Tokens.{kinds, Placed, scan, onto, gathered, tokens, unless_spliced}
-use Rattle.c_mean.specs.BareTokens.{Bare, bares, bare_read, bare_gathered}
+use Rattle.c_mean.specs.SeenToken.{Bare, bares}
+use Rattle.c_mean.specs.BareTokens.{bare_token, bare_read, bare_gathered}
 
 -- ---- lexemes
 
@@ -36,7 +37,7 @@ scan-follow header zero line at (b ∷ bs) = (omega arith, omega arith, scan-fol
 
 -- ---- tokens
 
-onto-bare : (end : ℕ) (t : Token) (r : Result (List Token) Refusal) → bare_read end (onto t r) ≡ onto (record { kind = t.kind; fresh = t.fresh; joined = t.place.start == end }) (bare_read t.place.end r)
+onto-bare : (end : ℕ) (t : Token) (r : Result (List Token) Refusal) → bare_read end (onto t r) ≡ onto (bare_token t.kind t.fresh (t.place.start == end)) (bare_read t.place.end r)
 onto-bare end t (Ok ts) = refl
 onto-bare end t (Err e) = refl
 
@@ -50,8 +51,8 @@ pub gathered-bare : (fresh joined : Bool) (end at : ℕ) (ls : List Placed) → 
 gathered-bare fresh joined end at [] f h j = refl
 gathered-bare fresh joined end at ((token k, p) ∷ ls) f h j =
     onto-bare end (record { kind = k; place = p; fresh = fresh }) (gathered false ls)
-    ∙ ap (λ r. onto (record { kind = k; fresh = fresh; joined = r }) (bare_read p.end (gathered false ls))) (ap (λ n. n == end) f.0 ∙ sym j)
-    ∙ ap (onto (record { kind = k; fresh = fresh; joined = joined })) (gathered-bare false true p.end p.end ls f.2 (omega arith) (same-place p.end))
+    ∙ ap (λ r. onto (bare_token k fresh r) (bare_read p.end (gathered false ls))) (ap (λ n. n == end) f.0 ∙ sym j)
+    ∙ ap (onto (bare_token k fresh joined)) (gathered-bare false true p.end p.end ls f.2 (omega arith) (same-place p.end))
 gathered-bare fresh joined end at ((line_end, p) ∷ ls) f h j = gathered-bare true false end p.end ls f.2 (omega arith) (later end at p.end h f.1)
 gathered-bare fresh joined end at ((space, p) ∷ ls) f h j = gathered-bare fresh false end p.end ls f.2 (omega arith) (later end at p.end h f.1)
 gathered-bare fresh joined end at ((bad c, p) ∷ ls) f h j = refl

@@ -1,34 +1,28 @@
 -- Tokens without their places, from the lexemes of a text.
-use Rattle.std.specs.Prelude.{ℕ, Bool, true, false, ◌==◌, List, [], ◌∷◌, Result, Ok, Err}
+use Rattle.std.specs.Prelude.{ℕ, Bool, true, false, List, [], ◌∷◌, Result, Ok, Err}
 use Rattle.c_mean.specs.declared.token.Token.{Token}
 use Rattle.c_mean.specs.declared.token.TokenKind.{TokenKind}
 use Rattle.c_mean.specs.declared.refusal.CKind.{CKind}
 use Rattle.c_mean.specs.Refusal.{Refusal}
 use Rattle.c_mean.specs.Piece.{Lexeme, token, line_end, space, bad}
 use Rattle.c_mean.specs.Tokens.{onto}
+use Rattle.c_mean.specs.SeenToken.{Bare, bares}
 
--- a token, whether it is fresh, and whether nothing stands between it and the token before, or the text's beginning
-pub record Bare : Type 0 where
-  pub kind : TokenKind
-  pub fresh : Bool
-  pub joined : Bool
-
--- tokens without their places, where the one before ends at this offset
-abbrev pub bares : ℕ → List Token → List Bare
-bares end [] = []
-bares end (t ∷ ts) = record { kind = t.kind; fresh = t.fresh; joined = t.place.start == end } ∷ bares t.place.end ts
-
-abbrev pub bare_read : ℕ → Result (List Token) Refusal → Result (List Bare) CKind
-bare_read end (Ok ts) = Ok (bares end ts)
-bare_read end (Err e) = Err e.kind
+abbrev pub bare_token : TokenKind → Bool → Bool → Bare
+bare_token k fresh joined = record { kind = k; fresh = fresh; joined = joined; kept = tt }
 
 -- the tokens up to the first lexeme that is none
 abbrev pub bare_gathered : Bool → Bool → List Lexeme → Result (List Bare) CKind
 bare_gathered fresh joined [] = Ok []
-bare_gathered fresh joined (token k ∷ ls) = onto (record { kind = k; fresh = fresh; joined = joined }) (bare_gathered false true ls)
+bare_gathered fresh joined (token k ∷ ls) = onto (bare_token k fresh joined) (bare_gathered false true ls)
 bare_gathered fresh joined (line_end ∷ ls) = bare_gathered true false ls
 bare_gathered fresh joined (space ∷ ls) = bare_gathered fresh false ls
 bare_gathered fresh joined (bad c ∷ ls) = Err c
+
+-- what was read, but for places
+abbrev pub bare_read : ℕ → Result (List Token) Refusal → Result (List Bare) CKind
+bare_read end (Ok ts) = Ok (bares end ts)
+bare_read end (Err e) = Err e.kind
 
 -- the lexemes but for white space and comments
 abbrev pub solid : List Lexeme → List Lexeme

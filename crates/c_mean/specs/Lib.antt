@@ -5,6 +5,7 @@ pub mod Punctuator
 pub mod Piece
 pub mod Splice
 pub mod Tokens
+pub mod SeenToken
 pub mod BareTokens
 pub mod StandardHeader
 pub mod Directive

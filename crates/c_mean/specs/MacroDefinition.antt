@@ -5,9 +5,9 @@ use Rattle.c_mean.specs.declared.token.IntType.{IntType}
 use Rattle.c_mean.specs.declared.token.IntType.TheVariants as int
 use Rattle.c_mean.specs.declared.token.Spelled.{Spelled}
 use Rattle.c_mean.specs.declared.token.Spelled.TheVariants.{Exact, Size, Plain}
-use Rattle.c_mean.specs.declared.token.Token.{Token}
 use Rattle.c_mean.specs.declared.token.TokenKind.{TokenKind}
 use Rattle.c_mean.specs.declared.token.TokenKind.TheVariants.{Word, Constant as Number, Quoted, Mark, TypeName, Null, Memset}
+use Rattle.c_mean.specs.SeenToken.{Seen}
 use Rattle.c_mean.specs.Directive.{Line, define}
 
 -- ---- the first of some lines
@@ -17,22 +17,22 @@ or_else (Some x) other = Some x
 or_else None other = other
 
 -- what the first line that gives something gives
-abbrev pub first_by : {X : Type 0} → (Line → Option X) → List Line → Option X
+abbrev pub first_by : {P X : Type 0} → (Line P → Option X) → List (Line P) → Option X
 first_by gives [] = None
 first_by gives (l ∷ ls) = or_else (gives l) (first_by gives ls)
 
 -- ---- macros
 
 -- the body that a line gives the name
-abbrev pub body_by : List ℕ → Line → Option (List Token)
+abbrev pub body_by : {P : Type 0} → List ℕ → Line P → Option (List (Seen P))
 body_by name (define p n body) = if bytes_eq n name then Some body else None
 body_by name other = None
 
 -- the body of a macro, by its first definition
-abbrev pub body_of : List ℕ → List Line → Option (List Token)
+abbrev pub body_of : {P : Type 0} → List ℕ → List (Line P) → Option (List (Seen P))
 body_of name ls = first_by (body_by name) ls
 
-abbrev pub is_macro : List ℕ → List Line → Bool
+abbrev pub is_macro : {P : Type 0} → List ℕ → List (Line P) → Bool
 is_macro name ls = is_some (body_of name ls)
 
 -- ---- equal bodies (6.10.3p1): the tokens are of equal kinds and values
@@ -74,7 +74,7 @@ same_kind Null Null = true
 same_kind Memset Memset = true
 same_kind a b = false
 
-abbrev pub same_body : List Token → List Token → Bool
+abbrev pub same_body : {P : Type 0} → List (Seen P) → List (Seen P) → Bool
 same_body [] [] = true
 same_body (t ∷ ts) (u ∷ us) = same_kind t.kind u.kind && same_body ts us
 same_body ts us = false

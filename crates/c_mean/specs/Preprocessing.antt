@@ -5,87 +5,110 @@ use Rattle.c_mean.specs.declared.token.Token.{Token}
 use Rattle.c_mean.specs.declared.token.TokenKind.{TokenKind}
 use Rattle.c_mean.specs.declared.preprocessed.Macro.{Macro}
 use Rattle.c_mean.specs.declared.preprocessed.Preprocessed.{Preprocessed}
+use Rattle.c_mean.specs.declared.refusal.CKind.{CKind}
 use Rattle.c_mean.specs.declared.refusal.CKind.TheVariants.{Redefined, Unbalanced}
 use Rattle.c_mean.specs.Refusal.{Refusal}
 use Rattle.c_mean.specs.Tokens.{tokens}
 use Rattle.c_mean.specs.StandardHeader.{kind_in}
-use Rattle.c_mean.specs.Directive.{Line, text, standard, quoted, define, unbalanced, refused, word_of, lines_of}
+use Rattle.c_mean.specs.SeenToken.{Seen, seen_behind, token_of}
+use Rattle.c_mean.specs.Directive.{Line, text, standard, define, unbalanced, refused, word_of, lines_of}
 use Rattle.c_mean.specs.MacroDefinition.{first_by, body_of, is_macro, same_body}
 use Rattle.c_mean.specs.Conditional.{balanced, read_lines}
 
 -- ---- the lines of both files in the order of reading
 
-abbrev pub header_lines : List Token → List Line → List Line
+abbrev pub header_lines : {P : Type 0} → List (Seen P) → List (Line P) → List (Line P)
 header_lines header before = read_lines (λ ls. []) [] before (balanced [] (lines_of None header))
 
-abbrev pub source_lines : List Token → List ℕ → List Token → List Line
+abbrev pub source_lines : {P : Type 0} → List (Seen P) → List ℕ → List (Seen P) → List (Line P)
 source_lines header name source = read_lines (header_lines header) [] [] (balanced [] (lines_of (Some name) source))
 
 -- what each line gives behind those before it, joined
-abbrev pub each_behind : {X : Type 0} → (List Line → Line → List X) → List Line → List Line → List X
+abbrev pub each_behind : {P X : Type 0} → (List (Line P) → Line P → List X) → List (Line P) → List (Line P) → List X
 each_behind gives before [] = []
 each_behind gives before (l ∷ ls) = gives before l ++ each_behind gives (before ++ l ∷ []) ls
 
--- ---- faults
+-- ---- faults, each at the `#` of its directive
 
-abbrev pub unless_same : Place → Option (List Token) → List Token → List Refusal
+abbrev pub Fault : Type 0 → Type 0
+Fault P = CKind × P
+
+abbrev pub unless_same : {P : Type 0} → P → Option (List (Seen P)) → List (Seen P) → List (Fault P)
 unless_same p None body = []
-unless_same p (Some first) body = if same_body first body then [] else record { kind = Redefined; place = p } ∷ []
+unless_same p (Some first) body = if same_body first body then [] else (Redefined, p) ∷ []
 
-abbrev pub faults_at : List Line → Line → List Refusal
-faults_at before (refused p kind) = record { kind = kind; place = p } ∷ []
-faults_at before (unbalanced p) = record { kind = Unbalanced; place = p } ∷ []
+abbrev pub faults_at : {P : Type 0} → List (Line P) → Line P → List (Fault P)
+faults_at before (refused p kind) = (kind, p) ∷ []
+faults_at before (unbalanced p) = (Unbalanced, p) ∷ []
 faults_at before (define p name body) = unless_same p (body_of name before) body
 faults_at before l = []
 
--- ---- macros (6.10.3)
+-- ---- macros (6.10.3), each with its name and its first body
 
-abbrev pub macros_at : List Line → Line → List Macro
-macros_at before (define p name body) = if is_macro name before then [] else record { name = name; body = body } ∷ []
+abbrev pub Named : Type 0 → Type 0
+Named P = List ℕ × List (Seen P)
+
+abbrev pub macros_at : {P : Type 0} → List (Line P) → Line P → List (Named P)
+macros_at before (define p name body) = if is_macro name before then [] else (name, body) ∷ []
 macros_at before l = []
 
 -- ---- replacement (6.10.3.1), with the names that headers give
 
--- the body in place of a name; its first token is fresh where the name was
-abbrev pub in_place_of : Token → List Token → List Token
-in_place_of t [] = []
-in_place_of t (b ∷ bs) = record { kind = b.kind; place = t.place; fresh = t.fresh } ∷ map (λ c. record { kind = c.kind; place = t.place; fresh = false }) bs
+-- another token in the place of a name
+abbrev pub put_for : {P : Type 0} → Seen P → Bool → TokenKind → Seen P
+put_for t fresh k = record { kind = k; fresh = fresh; joined = t.joined; kept = t.kept }
 
-abbrev pub kind_by : List ℕ → Line → Option TokenKind
+-- the body in the place of a name; its first token is fresh where the name was
+abbrev pub body_for : {P : Type 0} → Seen P → List (Seen P) → List (Seen P)
+body_for t [] = []
+body_for t (b ∷ bs) = put_for t t.fresh b.kind ∷ map (λ c. put_for t false c.kind) bs
+
+abbrev pub kind_by : {P : Type 0} → List ℕ → Line P → Option TokenKind
 kind_by name (standard h) = kind_in h name
 kind_by name l = None
 
 -- a name that is a macro, or that a header gives, or neither
-abbrev pub replaced_by : Token → Option (List Token) → Option TokenKind → List Token
-replaced_by t (Some body) k = in_place_of t body
-replaced_by t None (Some k) = record { kind = k; place = t.place; fresh = t.fresh } ∷ []
+abbrev pub replaced_by : {P : Type 0} → Seen P → Option (List (Seen P)) → Option TokenKind → List (Seen P)
+replaced_by t (Some body) k = body_for t body
+replaced_by t None (Some k) = put_for t t.fresh k ∷ []
 replaced_by t None None = t ∷ []
 
-abbrev pub replaced_word : List Line → Token → Option (List ℕ) → List Token
+abbrev pub replaced_word : {P : Type 0} → List (Line P) → Seen P → Option (List ℕ) → List (Seen P)
 replaced_word before t None = t ∷ []
 replaced_word before t (Some name) = replaced_by t (body_of name before) (first_by (kind_by name) before)
 
-abbrev pub replaced : List Line → List Token → List Token
+abbrev pub replaced : {P : Type 0} → List (Line P) → List (Seen P) → List (Seen P)
 replaced before [] = []
 replaced before (t ∷ ts) = replaced_word before t (word_of t.kind) ++ replaced before ts
 
-abbrev pub tokens_at : List Line → Line → List Token
+abbrev pub tokens_at : {P : Type 0} → List (Line P) → Line P → List (Seen P)
 tokens_at before (text ts) = replaced before ts
 tokens_at before l = []
 
 -- ---- the whole
 
--- the first fault, or else what is left
-abbrev pub left_unless : List Refusal → Preprocessed → Result Preprocessed Refusal
-left_unless [] left = Ok left
-left_unless (f ∷ fs) left = Err f
+-- the tokens and the macros
+abbrev pub Left : Type 0 → Type 0
+Left P = List (Seen P) × List (Named P)
 
-abbrev pub left_of : List Line → Result Preprocessed Refusal
-left_of ls = left_unless (each_behind faults_at [] ls) (record { tokens = each_behind tokens_at [] ls; macros = each_behind macros_at [] ls })
+-- the first fault, or else what is left
+abbrev pub unless_fault : {P : Type 0} → List (Fault P) → Left P → Result (Left P) (Fault P)
+unless_fault [] left = Ok left
+unless_fault (f ∷ fs) left = Err f
+
+abbrev pub left_of : {P : Type 0} → List (Line P) → Result (Left P) (Fault P)
+left_of ls = unless_fault (each_behind faults_at [] ls) (each_behind tokens_at [] ls, each_behind macros_at [] ls)
+
+abbrev pub macro_of : Named Place → Macro
+macro_of m = record { name = m.0; body = map token_of m.1 }
+
+abbrev pub placed_left : Result (Left Place) (Fault Place) → Result Preprocessed Refusal
+placed_left (Ok left) = Ok (record { tokens = map token_of left.0; macros = map macro_of left.1 })
+placed_left (Err f) = Err (record { kind = f.0; place = f.1 })
 
 -- of a header with this name and of a source, as tokens
 abbrev pub preprocessed : List Token → List ℕ → List Token → Result Preprocessed Refusal
-preprocessed header name source = left_of (source_lines header name source)
+preprocessed header name source = placed_left (left_of (source_lines (seen_behind 0 header) name (seen_behind 0 source)))
 
 -- of two texts: the first fault is that of the header's tokens, then that of the source's, then that of preprocessing
 abbrev pub preprocessed_of : List ℕ → Result (List Token) Refusal → Result (List Token) Refusal → Result Preprocessed Refusal

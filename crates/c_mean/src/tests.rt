@@ -2,7 +2,7 @@ use super::*;
 use cg_out::{List, Memory, Text};
 
 #[test]
-fn kinds_have_their_numbers_and_names(rt: HostRuntime) {
+fn kinds_of_tokens_and_directives(rt: HostRuntime) {
     for (kind, number, name) in [
         (CKind::BadToken, 40, "BadToken"),
         (CKind::Splice, 41, "Splice"),
@@ -12,6 +12,15 @@ fn kinds_have_their_numbers_and_names(rt: HostRuntime) {
         (CKind::MacroBody, 45, "MacroBody"),
         (CKind::Redefined, 46, "Redefined"),
         (CKind::Unbalanced, 47, "Unbalanced"),
+    ] {
+        assert_eq!(rt; kind.number(), number, "of {name}");
+        assert_eq!(rt; kind.name(), name);
+    }
+}
+
+#[test]
+fn kinds_of_trees(rt: HostRuntime) {
+    for (kind, number, name) in [
         (CKind::Syntax, 48, "Syntax"),
         (CKind::TooDeep, 49, "TooDeep"),
         (CKind::UnknownName, 50, "UnknownName"),
