@@ -12,3 +12,4 @@ pub mod Directive
 pub mod MacroDefinition
 pub mod Conditional
 pub mod Preprocessing
+pub mod BarePreprocessing
