@@ -1,13 +1,13 @@
 -- Where a name, a constant, a string and a comment end.
-use Rattle.std.proofs.Common.{◌≡◌, ℕ, zero, suc, ◌+◌, Bool, true, false, cond, not, ◌||◌, ◌&&◌, ◌==◌, List, [], ◌∷◌, ◌++◌, length, drop, replicate, take_while, Option, Some, None, refl, sym, ap, ◌∙◌, append_assoc, arith}
+use Rattle.std.proofs.Common.{◌≡◌, ℕ, zero, suc, Bool, true, false, not, ◌||◌, ◌&&◌, ◌==◌, List, [], ◌∷◌, ◌++◌, length, replicate, take_while, Some, refl, ap, ◌∙◌, append_assoc, arith}
 use Rattle.std.proofs.lemmas.List.Sums.{take_while-cons}
 use Rattle.std.proofs.lemmas.Bool.Decides.{nat_tests}
 use Rattle.std.proofs.Math.Seq.{drop-append_seam}
 use Rattle.c_mean.specs.declared.token.Constant.{Constant}
-use Rattle.c_mean.specs.declared.token.TokenKind.TheVariants.{Word, Constant as Number, Quoted, Mark}
-use Rattle.c_mean.specs.Characters.{is_line_end, is_blank, is_letter, is_digit, goes_on, first_passes, first_is, Pass, IsName}
+use Rattle.c_mean.specs.declared.token.TokenKind.TheVariants.{Word, Constant as Number, Quoted}
+use Rattle.c_mean.specs.Characters.{is_line_end, is_letter, is_digit, goes_on, first_passes, Pass, IsName}
 use Rattle.c_mean.specs.IntegerConstant.{constant_of}
-use Rattle.c_mean.specs.Piece.{Lexeme, token, line_end, space, bad, piece, one_more, close_at, is_exponent, is_sign, number_goes_on, number_rest, in_string}
+use Rattle.c_mean.specs.Piece.{Lexeme, token, line_end, space, bad, one_more, close_at, is_exponent, is_sign, number_goes_on, number_rest, in_string}
 use Rattle.c_mean.specs.Tokens.{kinds}
 use Rattle.c_mean.specs.BareTokens.{solid}
 

@@ -1,5 +1,5 @@
 -- The texts of constants are read as the constants.
-use Rattle.std.proofs.Common.{◌≡◌, ℕ, zero, suc, ◌+◌, ◌*◌, ◌^◌, ◌<◌, ◌≤◌, List, [], ◌∷◌, ◌++◌, length, get_or, drop, take_while, Option, Some, None, refl, ap, ◌∙◌, arith, Bool, true, false, ◌==◌, append_assoc}
+use Rattle.std.proofs.Common.{◌≡◌, ℕ, zero, suc, ◌^◌, ◌<◌, ◌≤◌, List, [], ◌∷◌, ◌++◌, length, get_or, Some, refl, arith, true, false, ◌==◌}
 use Rattle.std.specs.Fmt.{decimal, digits}
 use Rattle.std.specs.Char.{digit_value}
 use Rattle.std.specs.Str.Parse.{AllDigits, digits_value}
@@ -10,7 +10,7 @@ use Rattle.std.proofs.Math.Seq.{drop-append_seam}
 use Rattle.c_mean.specs.declared.token.Constant.{Constant}
 use Rattle.c_mean.specs.declared.token.TokenKind.TheVariants.{Constant as Number}
 use Rattle.c_mean.specs.Characters.{is_digit, goes_on, first_passes, Pass}
-use Rattle.c_mean.specs.IntegerConstant.{Suffix, suffix_of, most, in_base, constant_from, constant_in, constant_after_zero, constant_of}
+use Rattle.c_mean.specs.IntegerConstant.{Suffix, suffix_of, most, in_base, constant_from, constant_in, constant_of}
 use Rattle.c_mean.specs.Piece.{token}
 use Rattle.c_mean.specs.Tokens.{kinds}
 use Rattle.c_mean.proofs.Boundary.{pass-append, take_while-all, goes_on_with_number, kinds-constant}

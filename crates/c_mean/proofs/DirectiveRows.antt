@@ -1,13 +1,10 @@
 -- Texts preprocessed, by computation.
 use Rattle.std.proofs.Common.{◌≡◌, refl, ℕ, Bool, true, false, List, [], ◌∷◌, ◌++◌, map, Result, Ok, Err}
 use Rattle.std.specs.Prelude.{codes}
-use Rattle.c_mean.specs.declared.place.Place.{Place}
-use Rattle.c_mean.specs.declared.token.Constant.{Constant}
 use Rattle.c_mean.specs.declared.token.Token.{Token}
 use Rattle.c_mean.specs.declared.token.TokenKind.{TokenKind}
 use Rattle.c_mean.specs.declared.token.TokenKind.TheVariants.{Word, Constant as Number, Mark, TypeName, Null, Memset}
 use Rattle.c_mean.specs.declared.token.Spelled.TheVariants.{Exact, Size}
-use Rattle.c_mean.specs.declared.preprocessed.Macro.{Macro}
 use Rattle.c_mean.specs.declared.preprocessed.Preprocessed.{Preprocessed}
 use Rattle.c_mean.specs.declared.refusal.CKind.TheVariants.{OpenComment, BadDirective, UnknownHeader, MacroBody, Redefined, Unbalanced}
 use Rattle.c_mean.specs.Refusal.{Refusal}

@@ -1,10 +1,7 @@
 -- Tokens with their places are, without them, the tokens that the lexemes of the text give.
-use Rattle.std.proofs.Common.{◌≡◌, ℕ, zero, suc, ◌+◌, ◌<◌, ◌≤◌, Bool, true, false, ◌||◌, ◌&&◌, ◌==◌, not, List, [], ◌∷◌, ◌++◌, map, Option, Some, None, Result, Ok, Err, refl, sym, ap, subst, ◌∙◌, arith, eq-eqb}
+use Rattle.std.proofs.Common.{◌≡◌, ℕ, zero, suc, ◌+◌, ◌<◌, ◌≤◌, Bool, true, false, ◌&&◌, ◌==◌, not, List, [], ◌∷◌, map, None, Result, Ok, Err, refl, sym, ap, subst, ◌∙◌, arith, eq-eqb}
 use Rattle.std.proofs.lemmas.Bool.Decides.{nat_tests}
-use Rattle.c_mean.specs.declared.place.Place.{Place}
 use Rattle.c_mean.specs.declared.token.Token.{Token}
-use Rattle.c_mean.specs.declared.token.TokenKind.{TokenKind}
-use Rattle.c_mean.specs.declared.refusal.CKind.{CKind}
 use Rattle.c_mean.specs.Refusal.{Refusal}
 use Rattle.c_mean.specs.Characters.{Pass}
 use Rattle.c_mean.specs.Splice.{line_after, first_splice}

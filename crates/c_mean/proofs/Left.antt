@@ -1,20 +1,17 @@
 -- What preprocessing leaves does not depend on places, but for the places in it.
-use Rattle.std.proofs.Common.{◌≡◌, ℕ, zero, suc, Bool, true, false, cond, ◌&&◌, List, [], ◌∷◌, ◌++◌, map, Option, Some, None, option_map, Result, Ok, Err, refl, sym, ap, ◌∙◌}
+use Rattle.std.proofs.Common.{◌≡◌, ℕ, Bool, true, false, cond, ◌&&◌, List, [], ◌∷◌, ◌++◌, map, Option, Some, None, option_map, Result, Ok, Err, refl, sym, ap, ◌∙◌}
 use Rattle.std.proofs.lemmas.List.{map-append}
 use Rattle.c_mean.specs.declared.token.Token.{Token}
 use Rattle.c_mean.specs.declared.token.TokenKind.{TokenKind}
 use Rattle.c_mean.specs.declared.place.Place.{Place}
-use Rattle.c_mean.specs.declared.refusal.CKind.{CKind}
 use Rattle.c_mean.specs.declared.refusal.CKind.TheVariants.{Redefined}
-use Rattle.c_mean.specs.declared.preprocessed.Preprocessed.{Preprocessed}
-use Rattle.c_mean.specs.Refusal.{Refusal}
 use Rattle.c_mean.specs.Tokens.{tokens}
 use Rattle.c_mean.specs.SeenToken.{Seen, Bare, bares, seen_behind, kept_by, all_kept_by, token_of}
 use Rattle.c_mean.specs.Directive.{Line, text, standard, quoted, define, conditional, otherwise, endif, unbalanced, refused, word_of, lines_of}
-use Rattle.c_mean.specs.MacroDefinition.{or_else, first_by, body_of, is_macro, same_kind, same_body}
-use Rattle.c_mean.specs.Conditional.{balanced, read_lines}
+use Rattle.c_mean.specs.MacroDefinition.{first_by, body_of, is_macro, same_kind, same_body}
+use Rattle.c_mean.specs.Conditional.{balanced}
 use Rattle.c_mean.specs.Preprocessing.{header_lines, source_lines, each_behind, Fault, unless_same, faults_at, Named, macros_at, put_for, body_for, kind_by, replaced_by, replaced_word, replaced, tokens_at, Left, unless_fault, left_of, macro_of, placed_left, preprocessed, preprocessed_of, preprocessed_texts}
-use Rattle.c_mean.specs.BarePreprocessing.{BareLeft, token_kinds, macro_kinds, bare_preprocessed, seen_kinds, named_kinds, bare_left, preprocessed_bare}
+use Rattle.c_mean.specs.BarePreprocessing.{token_kinds, macro_kinds, bare_preprocessed, seen_kinds, named_kinds, bare_left, preprocessed_bare}
 use Rattle.c_mean.proofs.Places.{line_by, lines_of-by}
 use Rattle.c_mean.proofs.Reading.{body_of-by, is_macro-by, balanced-by, read_lines-by}
 use Rattle.c_mean.proofs.Joined.{ReadsAs}

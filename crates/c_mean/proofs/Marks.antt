@@ -1,11 +1,11 @@
 -- Where a punctuator ends.
-use Rattle.std.proofs.Common.{◌≡◌, ℕ, zero, suc, Bool, true, false, cond, ◌||◌, ◌==◌, List, [], ◌∷◌, ◌++◌, codes, Some, bytes_eq, refl, subst, ap}
+use Rattle.std.proofs.Common.{◌≡◌, ℕ, Bool, true, false, ◌||◌, ◌==◌, List, [], ◌∷◌, ◌++◌, codes, Some, bytes_eq, refl, subst, ap}
 use Rattle.std.specs.List.{AllByRecursion, list_any}
 use Rattle.std.proofs.lemmas.Slice.Eq.{bytes_eq-Decides}
 use Rattle.c_mean.specs.declared.token.TokenKind.TheVariants.{Mark}
 use Rattle.c_mean.specs.Characters.{first_passes}
 use Rattle.c_mean.specs.Punctuator.{mark_at}
-use Rattle.c_mean.specs.Piece.{Lexeme, token, piece}
+use Rattle.c_mean.specs.Piece.{token, piece}
 use Rattle.c_mean.specs.Tokens.{kinds}
 
 -- ---- members of a table

@@ -1,5 +1,5 @@
 -- A line means the same whatever is kept of places.
-use Rattle.std.proofs.Common.{◌≡◌, ℕ, zero, suc, Bool, true, false, cond, ◌&&◌, ◌||◌, List, [], ◌∷◌, ◌++◌, map, Option, Some, None, is_some, refl, sym, ap, ◌∙◌}
+use Rattle.std.proofs.Common.{◌≡◌, ℕ, Bool, true, false, cond, ◌||◌, List, [], ◌∷◌, map, Option, Some, None, is_some, refl, ap, ◌∙◌}
 use Rattle.c_mean.specs.declared.token.TokenKind.{TokenKind}
 use Rattle.c_mean.specs.declared.token.TokenKind.TheVariants.{Word, Constant as Number, Quoted, Mark, TypeName, Null, Memset}
 use Rattle.c_mean.specs.declared.refusal.CKind.TheVariants.{BadDirective, UnknownHeader, MacroBody}

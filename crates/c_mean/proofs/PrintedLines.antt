@@ -1,9 +1,9 @@
 -- The lexemes of lines as a header has them.
-use Rattle.std.proofs.Common.{◌≡◌, ℕ, Bool, true, false, not, ◌&&◌, ◌||◌, ◌==◌, List, [], ◌∷◌, ◌++◌, codes, refl, sym, ap, ◌∙◌, append_assoc, arith}
+use Rattle.std.proofs.Common.{◌≡◌, ℕ, Bool, true, false, List, [], ◌∷◌, ◌++◌, codes, refl, sym, ap, ◌∙◌, append_assoc, arith}
 use Rattle.std.specs.List.{AllByRecursion}
 use Rattle.std.proofs.lemmas.Bool.Decides.{nat_tests}
 use Rattle.c_mean.specs.declared.token.TokenKind.TheVariants.{Word, Quoted, Mark}
-use Rattle.c_mean.specs.Characters.{is_letter, is_digit, goes_on, Pass, IsName}
+use Rattle.c_mean.specs.Characters.{is_letter, goes_on, Pass, IsName}
 use Rattle.c_mean.specs.Punctuator.{mark_at}
 use Rattle.c_mean.specs.Piece.{Lexeme, token, line_end, space, in_string}
 use Rattle.c_mean.specs.Tokens.{kinds}

@@ -1,9 +1,9 @@
 -- The same lines are read whatever is kept of places.
-use Rattle.std.proofs.Common.{◌≡◌, ℕ, zero, suc, Bool, true, false, cond, not, List, [], ◌∷◌, ◌++◌, map, bytes_eq, Option, Some, None, is_some, option_map, refl, sym, ap, ◌∙◌}
+use Rattle.std.proofs.Common.{◌≡◌, ℕ, zero, suc, Bool, true, false, cond, List, [], ◌∷◌, ◌++◌, map, bytes_eq, Option, Some, None, is_some, option_map, refl, sym, ap, ◌∙◌}
 use Rattle.std.proofs.lemmas.List.{map-append}
-use Rattle.c_mean.specs.SeenToken.{Seen, kept_by, all_kept_by}
+use Rattle.c_mean.specs.SeenToken.{Seen, all_kept_by}
 use Rattle.c_mean.specs.Directive.{Line, text, standard, quoted, define, conditional, otherwise, endif, unbalanced, refused}
-use Rattle.c_mean.specs.MacroDefinition.{or_else, first_by, body_by, body_of, is_macro, same_bool}
+use Rattle.c_mean.specs.MacroDefinition.{or_else, first_by, body_by, body_of, is_macro}
 use Rattle.c_mean.specs.Conditional.{is_ended, if_ended, balanced, is_read, left_by, reads_behind, read_lines}
 use Rattle.c_mean.proofs.Places.{line_by}
 

@@ -1,7 +1,7 @@
 -- Which lines are read: conditional and source file inclusion (ISO/IEC 9899:1999, 6.10.1 and 6.10.2).
 use Rattle.std.specs.Prelude.{ℕ, zero, suc, Bool, true, false, not, if◌then◌else◌, List, [], ◌∷◌, ◌++◌, drop}
 use Rattle.std.specs.List.{list_all}
-use Rattle.c_mean.specs.Directive.{Line, text, standard, quoted, define, conditional, otherwise, endif, unbalanced, refused}
+use Rattle.c_mean.specs.Directive.{Line, quoted, conditional, otherwise, endif, unbalanced}
 use Rattle.c_mean.specs.MacroDefinition.{is_macro, same_bool}
 
 -- ---- whole conditionals

@@ -1,5 +1,5 @@
 -- Which names are macros behind the lines that were read (ISO/IEC 9899:1999, 6.10.3).
-use Rattle.std.specs.Prelude.{ℕ, Bool, true, false, ◌&&◌, ◌==◌, not, if◌then◌else◌, List, [], ◌∷◌, ◌++◌, bytes_eq, Option, Some, None, is_some}
+use Rattle.std.specs.Prelude.{ℕ, Bool, true, false, ◌&&◌, ◌==◌, not, if◌then◌else◌, List, [], ◌∷◌, bytes_eq, Option, Some, None, is_some}
 use Rattle.c_mean.specs.declared.token.Constant.{Constant}
 use Rattle.c_mean.specs.declared.token.IntType.{IntType}
 use Rattle.c_mean.specs.declared.token.IntType.TheVariants as int
