@@ -5,6 +5,8 @@ use Rattle.c_mean.specs.declared.token.TokenKind.{TokenKind}
 use Rattle.c_mean.specs.declared.token.TokenKind.TheVariants.{Constant as Number, Mark}
 use Rattle.c_mean.specs.IntegerConstant.{constant_of, most}
 use Rattle.c_mean.specs.Punctuator.{mark_at}
+use Rattle.c_mean.specs.StandardHeader.{header_of, kind_in}
+use Rattle.c_mean.specs.Directive.{keyword_of}
 use Rattle.c_mean.specs.Preprocessing.{preprocessed_texts}
 use Rattle.c_mean.specs.BarePreprocessing.{bare_preprocessed}
 
@@ -60,5 +62,5 @@ header_of_two_messages : bare_preprocessed (preprocessed_texts header (codes "ca
       ∷ (codes "CAN_PONG_LENGTH", in_brackets 0 10 true)
       ∷ (codes "CAN_PONG_IS_EXTENDED", in_brackets 1 10 false) ∷ [];
 })
-unfolding constant_of most mark_at
+unfolding constant_of most mark_at header_of kind_in keyword_of
 header_of_two_messages = refl

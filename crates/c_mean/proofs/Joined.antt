@@ -1,14 +1,15 @@
 -- Tokens with their places are, without them, the tokens that the lexemes of the text give.
-use Rattle.std.proofs.Common.{◌≡◌, ℕ, zero, suc, ◌+◌, ◌<◌, ◌≤◌, Bool, true, false, ◌&&◌, ◌==◌, not, List, [], ◌∷◌, map, None, Result, Ok, Err, refl, sym, ap, subst, ◌∙◌, arith, eq-eqb}
+use Rattle.std.proofs.Common.{◌≡◌, ℕ, zero, suc, ◌+◌, ◌<◌, ◌≤◌, Bool, true, false, ◌&&◌, ◌==◌, not, List, [], ◌∷◌, ◌++◌, map, None, Result, Ok, Err, refl, sym, ap, subst, ◌∙◌, arith, eq-eqb}
 use Rattle.std.proofs.lemmas.Bool.Decides.{nat_tests}
 use Rattle.c_mean.specs.declared.token.Token.{Token}
+use Rattle.c_mean.specs.declared.refusal.CKind.{CKind}
 use Rattle.c_mean.specs.Refusal.{Refusal}
 use Rattle.c_mean.specs.Characters.{Pass}
-use Rattle.c_mean.specs.Splice.{line_after, first_splice}
+use Rattle.c_mean.specs.Splice.{line_after, first_splice, is_plain}
 use Rattle.c_mean.specs.Piece.{Lexeme, token, line_end, space, bad, piece}
 use Rattle.c_mean.specs.Tokens.{kinds, Placed, scan, onto, gathered, tokens, unless_spliced}
 use Rattle.c_mean.specs.SeenToken.{Bare, bares}
-use Rattle.c_mean.specs.BareTokens.{bare_token, bare_read, bare_gathered}
+use Rattle.c_mean.specs.BareTokens.{bare_token, bare_read, bare_gathered, ReadsAs}
 
 -- ---- lexemes
 
@@ -63,10 +64,6 @@ tokens-bare header text e =
 
 -- ---- texts without splices
 
--- a byte that begins no splice, whatever follows
-abbrev pub is_plain : ℕ → Bool
-is_plain b = not (b == 92) && not (b == 63)
-
 neither : (x y : Bool) → (not x && not y) ≡ true → (x ≡ false) × (y ≡ false)
 neither false false h = (refl, refl)
 neither false true h = cc
@@ -80,12 +77,6 @@ plain-no_splice header line at (b ∷ bs) h =
 
 -- ---- the whole
 
--- the text has tokens, and without their places they are these
-pub record ReadsAs (header : Bool) (text : List ℕ) (bs : List Bare) : Type 0 where
-  pub list : List Token
-  pub read : tokens header text ≡ Ok list
-  pub are : bares 0 list ≡ bs
-
 ok-of : (r : Result (List Token) Refusal) (bs : List Bare) → bare_read 0 r ≡ Ok bs → (ts : List Token) × (r ≡ Ok ts) × (bares 0 ts ≡ bs)
 ok-of (Ok ts) bs e = (ts, refl, cc)
 ok-of (Err f) bs e = cc
@@ -95,3 +86,29 @@ reads-as header text ls bs plain k g =
     let e = tokens-bare header text (plain-no_splice header 1 0 text plain) ∙ ap (bare_gathered true true) k ∙ g in
     let r = ok-of (tokens header text) bs e in
     record { list = r.0; read = r.1; are = r.2 }
+
+-- ---- texts line by line
+
+-- what is read behind what was read before
+abbrev pub read_behind : Result (List Bare) CKind → Result (List Bare) CKind → Result (List Bare) CKind
+read_behind (Ok xs) (Ok ys) = Ok (xs ++ ys)
+read_behind (Ok xs) (Err e) = Err e
+read_behind (Err e) r = Err e
+
+nothing-before : (r : Result (List Bare) CKind) → r ≡ read_behind (Ok []) r
+nothing-before (Ok ys) = refl
+nothing-before (Err e) = refl
+
+onto-read_behind : (b : Bare) (x y : Result (List Bare) CKind) → onto b (read_behind x y) ≡ read_behind (onto b x) y
+onto-read_behind b (Ok xs) (Ok ys) = refl
+onto-read_behind b (Ok xs) (Err e) = refl
+onto-read_behind b (Err e) y = refl
+
+-- behind a line end the tokens do not depend on those before
+pub gathered-line_end : (fresh joined : Bool) (ks ls : List Lexeme) → bare_gathered fresh joined (ks ++ line_end ∷ ls) ≡ read_behind (bare_gathered fresh joined ks) (bare_gathered true false ls)
+gathered-line_end fresh joined [] ls = nothing-before (bare_gathered true false ls)
+gathered-line_end fresh joined (token k ∷ ks) ls =
+    ap (onto (bare_token k fresh joined)) (gathered-line_end false true ks ls) ∙ onto-read_behind (bare_token k fresh joined) (bare_gathered false true ks) (bare_gathered true false ls)
+gathered-line_end fresh joined (line_end ∷ ks) ls = gathered-line_end true false ks ls
+gathered-line_end fresh joined (space ∷ ks) ls = gathered-line_end fresh false ks ls
+gathered-line_end fresh joined (bad c ∷ ks) ls = refl

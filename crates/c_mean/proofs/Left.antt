@@ -6,6 +6,7 @@ use Rattle.c_mean.specs.declared.token.TokenKind.{TokenKind}
 use Rattle.c_mean.specs.declared.place.Place.{Place}
 use Rattle.c_mean.specs.declared.refusal.CKind.TheVariants.{Redefined}
 use Rattle.c_mean.specs.Tokens.{tokens}
+use Rattle.c_mean.specs.BareTokens.{ReadsAs}
 use Rattle.c_mean.specs.SeenToken.{Seen, Bare, bares, seen_behind, kept_by, all_kept_by, token_of}
 use Rattle.c_mean.specs.Directive.{Line, text, standard, quoted, define, conditional, otherwise, endif, unbalanced, refused, word_of, lines_of}
 use Rattle.c_mean.specs.MacroDefinition.{first_by, body_of, is_macro, same_kind, same_body}
@@ -14,7 +15,6 @@ use Rattle.c_mean.specs.Preprocessing.{header_lines, source_lines, each_behind, 
 use Rattle.c_mean.specs.BarePreprocessing.{token_kinds, macro_kinds, bare_preprocessed, seen_kinds, named_kinds, bare_left, preprocessed_bare}
 use Rattle.c_mean.proofs.Places.{line_by, lines_of-by}
 use Rattle.c_mean.proofs.Reading.{body_of-by, is_macro-by, balanced-by, read_lines-by}
-use Rattle.c_mean.proofs.Joined.{ReadsAs}
 
 module _ {P Q : Type 0} (f : P → Q) where
   -- ---- the lines

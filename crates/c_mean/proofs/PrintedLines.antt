@@ -10,7 +10,7 @@ use Rattle.c_mean.specs.Tokens.{kinds}
 use Rattle.c_mean.specs.SeenToken.{Seen}
 use Rattle.c_mean.specs.Directive.{begins_fresh, before_lines, lines}
 use Rattle.c_mean.proofs.Boundary.{pass-append, kinds-name, kinds-comment, kinds-string, is_no_star}
-use Rattle.c_mean.proofs.Joined.{is_plain}
+use Rattle.c_mean.specs.Splice.{is_plain}
 
 abbrev pub hash : Lexeme
 hash = token (Mark (codes "#"))

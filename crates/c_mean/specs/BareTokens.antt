@@ -1,11 +1,11 @@
 -- Tokens without their places, from the lexemes of a text.
-use Rattle.std.specs.Prelude.{ℕ, Bool, true, false, List, [], ◌∷◌, Result, Ok, Err}
+use Rattle.std.specs.Prelude.{◌≡◌, ℕ, Bool, true, false, List, [], ◌∷◌, Result, Ok, Err}
 use Rattle.c_mean.specs.declared.token.Token.{Token}
 use Rattle.c_mean.specs.declared.token.TokenKind.{TokenKind}
 use Rattle.c_mean.specs.declared.refusal.CKind.{CKind}
 use Rattle.c_mean.specs.Refusal.{Refusal}
 use Rattle.c_mean.specs.Piece.{Lexeme, token, line_end, space, bad}
-use Rattle.c_mean.specs.Tokens.{onto}
+use Rattle.c_mean.specs.Tokens.{onto, tokens}
 use Rattle.c_mean.specs.SeenToken.{Bare, bares}
 
 abbrev pub bare_token : TokenKind → Bool → Bool → Bare
@@ -29,3 +29,9 @@ abbrev pub solid : List Lexeme → List Lexeme
 solid [] = []
 solid (space ∷ ls) = solid ls
 solid (l ∷ ls) = l ∷ solid ls
+
+-- the text has tokens, and without their places they are these
+pub record ReadsAs (header : Bool) (text : List ℕ) (bs : List Bare) : Type 0 where
+  pub list : List Token
+  pub read : tokens header text ≡ Ok list
+  pub are : bares 0 list ≡ bs

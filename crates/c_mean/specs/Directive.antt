@@ -137,7 +137,7 @@ pub data Keyword : Type 0 where
   k_endif : Keyword
 
 -- the word behind the `#`
-abbrev pub keyword_of : TokenKind → Option Keyword
+unfoldable pub keyword_of : TokenKind → Option Keyword
 keyword_of k =
     if is_word (codes "include") k then Some k_include
     else if is_word (codes "define") k then Some k_define

@@ -1,5 +1,5 @@
 -- Punctuators (ISO/IEC 9899:1999, 6.4.6), without digraphs.
-use Rattle.std.specs.Prelude.{ℕ, Bool, true, false, ◌&&◌, ◌==◌, if◌then◌else◌, List, [], ◌∷◌, codes, Option, Some, None}
+use Rattle.std.specs.Prelude.{ℕ, Bool, true, false, ◌&&◌, ◌==◌, if◌then◌else◌, List, [], ◌∷◌, ◌++◌, codes, Option, Some, None}
 use Rattle.std.specs.List.{list_any}
 
 -- those of three characters, of two, and of one
@@ -30,12 +30,8 @@ abbrev pub first_in : List (List ℕ) → List ℕ → Option (List ℕ)
 first_in [] bs = None
 first_in (x ∷ xs) bs = if begins x bs then Some x else first_in xs bs
 
-abbrev pub or_else : Option (List ℕ) → Option (List ℕ) → Option (List ℕ)
-or_else (Some x) other = Some x
-or_else None other = other
-
 -- the longest punctuator in front, where that is no digraph
 unfoldable pub mark_at : List ℕ → Option (List ℕ)
 mark_at bs =
     if list_any (λ d. begins d bs) digraphs then None
-    else or_else (first_in threes bs) (or_else (first_in twos bs) (first_in ones bs))
+    else first_in (threes ++ (twos ++ ones)) bs

@@ -1,5 +1,5 @@
 -- Line splices and trigraphs (ISO/IEC 9899:1999, 5.1.1.2 and 5.2.1.1), which are refused wherever they stand.
-use Rattle.std.specs.Prelude.{ℕ, ◌+◌, Bool, ◌||◌, ◌&&◌, ◌==◌, if◌then◌else◌, List, [], ◌∷◌, Option, Some, None}
+use Rattle.std.specs.Prelude.{ℕ, ◌+◌, Bool, not, ◌||◌, ◌&&◌, ◌==◌, if◌then◌else◌, List, [], ◌∷◌, Option, Some, None}
 use Rattle.c_mean.specs.declared.place.Place.{Place}
 use Rattle.c_mean.specs.Characters.{is_line_end, first_is}
 
@@ -17,3 +17,7 @@ first_splice header line at [] = None
 first_splice header line at (b ∷ bs) =
     if begins_splice b bs then Some (record { header = header; line = line; start = at; end = at + 1 })
     else first_splice header (line_after line b) (at + 1) bs
+
+-- a byte that begins none of these, whatever follows
+abbrev pub is_plain : ℕ → Bool
+is_plain b = not (b == 92) && not (b == 63)

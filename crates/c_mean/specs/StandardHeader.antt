@@ -27,7 +27,7 @@ abbrev pub is_header : List ℕ → List TokenKind → Bool
 is_header w (name ∷ point ∷ h ∷ []) = is_word w name && is_mark (codes ".") point && is_word (codes "h") h
 is_header w other = false
 
-abbrev pub header_of : List TokenKind → Option Header
+unfoldable pub header_of : List TokenKind → Option Header
 header_of ks =
     if is_header (codes "stdbool") ks then Some stdbool_h
     else if is_header (codes "stddef") ks then Some stddef_h
@@ -54,5 +54,5 @@ look_up name [] = None
 look_up name ((n, k) ∷ rest) = if bytes_eq n name then Some k else look_up name rest
 
 -- the token that a name becomes behind a header
-abbrev pub kind_in : Header → List ℕ → Option TokenKind
+unfoldable pub kind_in : Header → List ℕ → Option TokenKind
 kind_in h name = look_up name (names_of h)
