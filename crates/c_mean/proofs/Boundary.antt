@@ -1,5 +1,6 @@
 -- Where a name, a constant, a string and a comment end.
 use Rattle.std.proofs.Common.{◌≡◌, ℕ, zero, suc, Bool, true, false, not, ◌||◌, ◌&&◌, ◌==◌, List, [], ◌∷◌, ◌++◌, length, replicate, take_while, Some, refl, ap, ◌∙◌, append_assoc, arith}
+use Rattle.std.specs.List.{list_all}
 use Rattle.std.proofs.lemmas.List.Sums.{take_while-cons}
 use Rattle.std.proofs.lemmas.Bool.Decides.{nat_tests}
 use Rattle.std.proofs.Math.Seq.{drop-append_seam}
@@ -16,6 +17,15 @@ use Rattle.c_mean.specs.BareTokens.{solid}
 pub pass-append : (p : ℕ → Bool) (xs ys : List ℕ) → Pass p xs → Pass p ys → Pass p (xs ++ ys)
 pass-append p [] ys h k = k
 pass-append p (x ∷ xs) ys h k = (h.0, pass-append p xs ys h.1 k)
+
+-- of a given text, whose test is `refl`
+pub pass-all : (p : ℕ → Bool) (bs : List ℕ) → list_all p bs ≡ true → Pass p bs
+pass-all p [] h = tt
+pass-all p (b ∷ bs) h = let e = both (p b) (list_all p bs) h in (e.0, pass-all p bs e.1)
+  where
+    both : (r s : Bool) → (r && s) ≡ true → (r ≡ true) × (s ≡ true)
+    both true s e = (refl, e)
+    both false s e = cc
 
 pub take_while-all : (p : ℕ → Bool) (xs rest : List ℕ) → Pass p xs → first_passes p rest ≡ false → take_while p (xs ++ rest) ≡ xs
 take_while-all p [] [] h e = refl

@@ -29,7 +29,7 @@ constant value base s = record { value = value; base = base; unsigned = s.unsign
 digit-goes_on : (base c : ℕ) → base ≤ 16 → digit_value c < base → goes_on c ≡ true
 digit-goes_on base c b h = grind (arith, nat_tests)
 
-digits-go_on : (base : ℕ) (ds : List ℕ) → base ≤ 16 → AllDigits base ds → Pass goes_on ds
+pub digits-go_on : (base : ℕ) (ds : List ℕ) → base ≤ 16 → AllDigits base ds → Pass goes_on ds
 digits-go_on base [] b h = tt
 digits-go_on base (d ∷ ds) b h = (digit-goes_on base d b h.0, digits-go_on base ds b h.1)
 
