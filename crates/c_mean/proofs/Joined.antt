@@ -1,5 +1,5 @@
 -- Tokens with their places are, without them, the tokens that the lexemes of the text give.
-use Rattle.std.proofs.Common.{◌≡◌, ℕ, zero, suc, ◌+◌, ◌<◌, ◌≤◌, Bool, true, false, ◌&&◌, ◌==◌, not, List, [], ◌∷◌, ◌++◌, map, None, Result, Ok, Err, refl, sym, ap, subst, ◌∙◌, arith, eq-eqb}
+use Rattle.std.proofs.Common.{◌≡◌, ℕ, zero, suc, ◌+◌, ◌<◌, ◌≤◌, Bool, true, false, ◌&&◌, ◌==◌, not, List, [], ◌∷◌, ◌++◌, map, Option, Some, None, Result, Ok, Err, refl, sym, ap, subst, ◌∙◌, arith, eq-eqb}
 use Rattle.std.proofs.lemmas.Bool.Decides.{nat_tests}
 use Rattle.c_mean.specs.declared.token.Token.{Token}
 use Rattle.c_mean.specs.declared.refusal.CKind.{CKind}
@@ -8,7 +8,7 @@ use Rattle.c_mean.specs.Characters.{Pass}
 use Rattle.c_mean.specs.Splice.{line_after, first_splice, is_plain}
 use Rattle.c_mean.specs.Piece.{Lexeme, token, line_end, space, bad, piece}
 use Rattle.c_mean.specs.Tokens.{kinds, Placed, scan, onto, gathered, tokens, unless_spliced}
-use Rattle.c_mean.specs.SeenToken.{Bare, bares}
+use Rattle.c_mean.specs.SeenToken.{Bare, is_end, bares}
 use Rattle.c_mean.specs.BareTokens.{bare_token, bare_read, bare_gathered, ReadsAs}
 
 -- ---- lexemes
@@ -35,32 +35,41 @@ scan-follow header zero line at (b ∷ bs) = (omega arith, omega arith, scan-fol
 
 -- ---- tokens
 
-onto-bare : (end : ℕ) (t : Token) (r : Result (List Token) Refusal) → bare_read end (onto t r) ≡ onto (bare_token t.kind t.fresh (t.place.start == end)) (bare_read t.place.end r)
+onto-bare : (end : Option ℕ) (t : Token) (r : Result (List Token) Refusal) → bare_read end (onto t r) ≡ onto (bare_token t.kind t.fresh (is_end end t.place.start)) (bare_read (Some t.place.end) r)
 onto-bare end t (Ok ts) = refl
 onto-bare end t (Err e) = refl
 
-same-place : (n : ℕ) → true ≡ (n == n)
+abbrev NotBehind : Option ℕ → ℕ → Type 0
+NotBehind None at = Unit {0}
+NotBehind (Some end) at = end ≤ at
+
+same-place : (n : ℕ) → true ≡ is_end (Some n) n
 same-place n = sym (eq-eqb n n refl)
 
-later : (end at to : ℕ) → end ≤ at → at < to → false ≡ (to == end)
-later end at to h k = grind (arith, nat_tests)
+later-place : (end : Option ℕ) (at to : ℕ) → NotBehind end at → at < to → false ≡ is_end end to
+later-place None at to h k = refl
+later-place (Some end) at to h k = grind (arith, nat_tests)
 
-pub gathered-bare : (fresh joined : Bool) (end at : ℕ) (ls : List Placed) → Follow at ls → end ≤ at → joined ≡ (at == end) → bare_read end (gathered fresh ls) ≡ bare_gathered fresh joined (map lexeme ls)
+later-behind : (end : Option ℕ) (at to : ℕ) → NotBehind end at → at < to → NotBehind end to
+later-behind None at to h k = tt
+later-behind (Some end) at to h k = omega arith
+
+pub gathered-bare : (fresh joined : Bool) (end : Option ℕ) (at : ℕ) (ls : List Placed) → Follow at ls → NotBehind end at → joined ≡ is_end end at → bare_read end (gathered fresh ls) ≡ bare_gathered fresh joined (map lexeme ls)
 gathered-bare fresh joined end at [] f h j = refl
 gathered-bare fresh joined end at ((token k, p) ∷ ls) f h j =
     onto-bare end (record { kind = k; place = p; fresh = fresh }) (gathered false ls)
-    ∙ ap (λ r. onto (bare_token k fresh r) (bare_read p.end (gathered false ls))) (ap (λ n. n == end) f.0 ∙ sym j)
-    ∙ ap (onto (bare_token k fresh joined)) (gathered-bare false true p.end p.end ls f.2 (omega arith) (same-place p.end))
-gathered-bare fresh joined end at ((line_end, p) ∷ ls) f h j = gathered-bare true false end p.end ls f.2 (omega arith) (later end at p.end h f.1)
-gathered-bare fresh joined end at ((space, p) ∷ ls) f h j = gathered-bare fresh false end p.end ls f.2 (omega arith) (later end at p.end h f.1)
+    ∙ ap (λ r. onto (bare_token k fresh r) (bare_read (Some p.end) (gathered false ls))) (ap (is_end end) f.0 ∙ sym j)
+    ∙ ap (onto (bare_token k fresh joined)) (gathered-bare false true (Some p.end) p.end ls f.2 (omega arith) (same-place p.end))
+gathered-bare fresh joined end at ((line_end, p) ∷ ls) f h j = gathered-bare true false end p.end ls f.2 (later-behind end at p.end h f.1) (later-place end at p.end h f.1)
+gathered-bare fresh joined end at ((space, p) ∷ ls) f h j = gathered-bare fresh false end p.end ls f.2 (later-behind end at p.end h f.1) (later-place end at p.end h f.1)
 gathered-bare fresh joined end at ((bad c, p) ∷ ls) f h j = refl
 
 -- where no splice stands, the lexemes say what the tokens are
-pub tokens-bare : (header : Bool) (text : List ℕ) → first_splice header 1 0 text ≡ None → bare_read 0 (tokens header text) ≡ bare_gathered true true (kinds 0 text)
+pub tokens-bare : (header : Bool) (text : List ℕ) → first_splice header 1 0 text ≡ None → bare_read None (tokens header text) ≡ bare_gathered true false (kinds 0 text)
 tokens-bare header text e =
-    ap (λ s. bare_read 0 (unless_spliced s (gathered true (scan header 0 1 0 text)))) e
-    ∙ gathered-bare true true 0 0 (scan header 0 1 0 text) (scan-follow header 0 1 0 text) (omega arith) refl
-    ∙ ap (bare_gathered true true) (scan-kinds header 0 1 0 text)
+    ap (λ s. bare_read None (unless_spliced s (gathered true (scan header 0 1 0 text)))) e
+    ∙ gathered-bare true false None 0 (scan header 0 1 0 text) (scan-follow header 0 1 0 text) tt refl
+    ∙ ap (bare_gathered true false) (scan-kinds header 0 1 0 text)
 
 -- ---- texts without splices
 
@@ -77,13 +86,13 @@ plain-no_splice header line at (b ∷ bs) h =
 
 -- ---- the whole
 
-ok-of : (r : Result (List Token) Refusal) (bs : List Bare) → bare_read 0 r ≡ Ok bs → (ts : List Token) × (r ≡ Ok ts) × (bares 0 ts ≡ bs)
+ok-of : (r : Result (List Token) Refusal) (bs : List Bare) → bare_read None r ≡ Ok bs → (ts : List Token) × (r ≡ Ok ts) × (bares ts ≡ bs)
 ok-of (Ok ts) bs e = (ts, refl, cc)
 ok-of (Err f) bs e = cc
 
-pub reads-as : (header : Bool) (text : List ℕ) (ls : List Lexeme) (bs : List Bare) → Pass is_plain text → kinds 0 text ≡ ls → bare_gathered true true ls ≡ Ok bs → ReadsAs header text bs
+pub reads-as : (header : Bool) (text : List ℕ) (ls : List Lexeme) (bs : List Bare) → Pass is_plain text → kinds 0 text ≡ ls → bare_gathered true false ls ≡ Ok bs → ReadsAs header text bs
 reads-as header text ls bs plain k g =
-    let e = tokens-bare header text (plain-no_splice header 1 0 text plain) ∙ ap (bare_gathered true true) k ∙ g in
+    let e = tokens-bare header text (plain-no_splice header 1 0 text plain) ∙ ap (bare_gathered true false) k ∙ g in
     let r = ok-of (tokens header text) bs e in
     record { list = r.0; read = r.1; are = r.2 }
 

@@ -186,10 +186,10 @@ placed-bare (Ok left) = rw (placed_kinds left.0, placed_macros left.1) refl
 placed-bare (Err x) = refl
 
 -- what is left of tokens, but for places, is what is left of the tokens without their places
-pub preprocessed-bare : (header : List Token) (name : List ℕ) (source : List Token) → bare_preprocessed (preprocessed header name source) ≡ preprocessed_bare (bares 0 header) name (bares 0 source)
+pub preprocessed-bare : (header : List Token) (name : List ℕ) (source : List Token) → bare_preprocessed (preprocessed header name source) ≡ preprocessed_bare (bares header) name (bares source)
 preprocessed-bare header name source =
-    placed-bare (left_of (source_lines (seen_behind 0 header) name (seen_behind 0 source)))
-    ∙ bare_left-source (λ p. tt) (seen_behind 0 header) name (seen_behind 0 source)
+    placed-bare (left_of (source_lines (seen_behind None header) name (seen_behind None source)))
+    ∙ bare_left-source (λ p. tt) (seen_behind None header) name (seen_behind None source)
 
 -- the same of texts whose tokens are known but for places
 pub texts-bare : (header name source : List ℕ) (hs ss : List Bare) → ReadsAs true header hs → ReadsAs false source ss → bare_preprocessed (preprocessed_texts header name source) ≡ preprocessed_bare hs name ss
@@ -197,5 +197,5 @@ texts-bare header name source hs ss h s =
     ap (λ r. bare_preprocessed (preprocessed_of name r (tokens false source))) h.read
     ∙ ap (λ r. bare_preprocessed (preprocessed_of name (Ok h.list) r)) s.read
     ∙ preprocessed-bare h.list name s.list
-    ∙ ap (λ bs. preprocessed_bare bs name (bares 0 s.list)) h.are
+    ∙ ap (λ bs. preprocessed_bare bs name (bares s.list)) h.are
     ∙ ap (λ bs. preprocessed_bare hs name bs) s.are

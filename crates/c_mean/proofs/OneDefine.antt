@@ -36,11 +36,11 @@ lexemes n v = hash ∷ word (codes "define") ∷ space ∷ word n ∷ space ∷ 
 
 abbrev line_tokens : List ℕ → ℕ → List Bare
 line_tokens n v =
-    bare_token (Mark (codes "#")) true true ∷ bare_token (Word (codes "define")) false true ∷ bare_token (Word n) false false
+    bare_token (Mark (codes "#")) true false ∷ bare_token (Word (codes "define")) false true ∷ bare_token (Word n) false false
     ∷ bare_token (Mark (codes "(")) false false ∷ bare_token (Number (constant v 16 (record { unsigned = true; longs = 0 }))) false true ∷ bare_token (Mark (codes ")")) false true ∷ []
 
 abbrev source_tokens : List Bare
-source_tokens = bare_token (Mark (codes "#")) true true ∷ bare_token (Word (codes "include")) false true ∷ bare_token (Quoted (codes "h.h")) false false ∷ []
+source_tokens = bare_token (Mark (codes "#")) true false ∷ bare_token (Word (codes "include")) false true ∷ bare_token (Quoted (codes "h.h")) false false ∷ []
 
 line-kinds : (n : List ℕ) (v : ℕ) → IsName n → v < 2 ^ 64 → kinds 0 (line n v) ≡ lexemes n v
 line-kinds n v h small =

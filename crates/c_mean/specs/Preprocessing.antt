@@ -108,7 +108,7 @@ placed_left (Err f) = Err (record { kind = f.0; place = f.1 })
 
 -- of a header with this name and of a source, as tokens
 abbrev pub preprocessed : List Token → List ℕ → List Token → Result Preprocessed Refusal
-preprocessed header name source = placed_left (left_of (source_lines (seen_behind 0 header) name (seen_behind 0 source)))
+preprocessed header name source = placed_left (left_of (source_lines (seen_behind None header) name (seen_behind None source)))
 
 -- of two texts: the first fault is that of the header's tokens, then that of the source's, then that of preprocessing
 abbrev pub preprocessed_of : List ℕ → Result (List Token) Refusal → Result (List Token) Refusal → Result Preprocessed Refusal
