@@ -1,8 +1,8 @@
 -- Lines that are read as a group (6.10.1): conditionals are whole in it.
-use Rattle.std.proofs.Common.{◌≡◌, ℕ, zero, suc, Bool, true, false, cond, not, ◌&&◌, List, [], ◌∷◌, ◌++◌, map, Option, Some, None, refl, sym, ap, ◌∙◌, append_assoc, append-nil}
+use Rattle.std.proofs.Common.{◌≡◌, ℕ, suc, Bool, true, false, cond, List, [], ◌∷◌, ◌++◌, Option, Some, None, refl, sym, ap, ◌∙◌, append_assoc, append-nil}
 use Rattle.c_mean.specs.StandardHeader.{Header}
 use Rattle.c_mean.specs.SeenToken.{Seen}
-use Rattle.c_mean.specs.Directive.{begins_fresh, before_lines, lines, Line, text, standard, quoted, define, conditional, otherwise, endif, unbalanced, refused}
+use Rattle.c_mean.specs.Directive.{begins_fresh, before_lines, lines, Line, text, standard, define, conditional, endif}
 use Rattle.c_mean.specs.MacroDefinition.{or_else, first_by, is_macro, same_bool}
 use Rattle.c_mean.specs.Conditional.{is_ended, if_ended, balanced, is_read, left_by, reads_behind, read_lines}
 use Rattle.c_mean.specs.Preprocessing.{each_behind}

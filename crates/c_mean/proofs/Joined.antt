@@ -104,11 +104,11 @@ read_behind (Ok xs) (Ok ys) = Ok (xs ++ ys)
 read_behind (Ok xs) (Err e) = Err e
 read_behind (Err e) r = Err e
 
-nothing-before : (r : Result (List Bare) CKind) → r ≡ read_behind (Ok []) r
+pub nothing-before : (r : Result (List Bare) CKind) → r ≡ read_behind (Ok []) r
 nothing-before (Ok ys) = refl
 nothing-before (Err e) = refl
 
-onto-read_behind : (b : Bare) (x y : Result (List Bare) CKind) → onto b (read_behind x y) ≡ read_behind (onto b x) y
+pub onto-read_behind : (b : Bare) (x y : Result (List Bare) CKind) → onto b (read_behind x y) ≡ read_behind (onto b x) y
 onto-read_behind b (Ok xs) (Ok ys) = refl
 onto-read_behind b (Ok xs) (Err e) = refl
 onto-read_behind b (Err e) y = refl
