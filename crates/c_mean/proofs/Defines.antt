@@ -2,8 +2,8 @@
 use Rattle.std.proofs.Common.{◌≡◌, ℕ, Bool, true, false, cond, ◌||◌, List, [], ◌∷◌, ◌++◌, map, bytes_eq, Option, Some, None, is_some, refl, ap, ◌∙◌}
 use Rattle.c_mean.specs.SeenToken.{Seen}
 use Rattle.c_mean.specs.Directive.{Line, define}
-use Rattle.c_mean.specs.MacroDefinition.{or_else, first_by, body_by, body_of, is_macro}
-use Rattle.c_mean.specs.Preprocessing.{each_behind, Fault, unless_same, faults_at, Named, macros_at, tokens_at}
+use Rattle.c_mean.specs.MacroDefinition.{or_else, body_by, body_of, is_macro}
+use Rattle.c_mean.specs.Preprocessing.{each_behind, unless_same, faults_at, Named, macros_at, tokens_at}
 use Rattle.c_mean.proofs.Group.{IsGroup, group-none, group-line, group-append, plain-define, first_by-append}
 
 -- ---- whether a name is a macro

@@ -193,3 +193,46 @@ words_asked = refl
 stages : of (text_of (codes "/*" ∷ [])) (text_of (codes "@" ∷ [])) ≡ Err (record { kind = OpenComment; place = record { header = true; line = 1; start = 0; end = 2 } })
 unfolding constant_of most mark_at header_of kind_in keyword_of
 stages = refl
+
+no_name_asked : of [] (text_of (codes "#ifdef" ∷ [])) ≡ Err (record { kind = BadDirective; place = record { header = false; line = 1; start = 0; end = 1 } })
+unfolding constant_of most mark_at header_of kind_in keyword_of
+no_name_asked = refl
+
+no_identifier : of [] (text_of (codes "#define 1" ∷ [])) ≡ Err (record { kind = BadDirective; place = record { header = false; line = 1; start = 0; end = 1 } })
+unfolding constant_of most mark_at header_of kind_in keyword_of
+no_identifier = refl
+
+another_suffix : of [] (text_of (codes "#define A 1" ∷ codes "#define A 1u" ∷ [])) ≡ Err (record { kind = Redefined; place = record { header = false; line = 2; start = 12; end = 13 } })
+unfolding constant_of most mark_at header_of kind_in keyword_of
+another_suffix = refl
+
+if_is_no_directive : of [] (text_of (codes "#if 1" ∷ codes "#endif" ∷ [])) ≡ Err (record { kind = BadDirective; place = record { header = false; line = 1; start = 0; end = 1 } })
+unfolding constant_of most mark_at header_of kind_in keyword_of
+if_is_no_directive = refl
+
+other_place_of_the_name : of [] (text_of (codes "#include stdint.h" ∷ [])) ≡ Err (record { kind = BadDirective; place = record { header = false; line = 1; start = 0; end = 1 } })
+unfolding constant_of most mark_at header_of kind_in keyword_of
+other_place_of_the_name = refl
+
+-- two bodies of unequal lengths
+longer_body : of [] (text_of (codes "#define A 1" ∷ codes "#define A 1 1" ∷ [])) ≡ Err (record { kind = Redefined; place = record { header = false; line = 2; start = 12; end = 13 } })
+unfolding constant_of most mark_at header_of kind_in keyword_of
+longer_body = refl
+
+-- a comment before a directive leaves it fresh
+behind_comment : of [] (text_of (codes "/* a */ #define A" ∷ codes "b" ∷ [])) ≡ Ok (Word (codes "b") ∷ [], (codes "A", []) ∷ [])
+unfolding constant_of most mark_at header_of kind_in keyword_of
+behind_comment = refl
+
+-- a keyword may be a macro's name
+keyword_as_name : of [] (text_of (codes "#define int 1" ∷ codes "int" ∷ [])) ≡ Ok (number 1 10 false 0 ∷ [], (codes "int", number 1 10 false 0 ∷ []) ∷ [])
+unfolding constant_of most mark_at header_of kind_in keyword_of
+keyword_as_name = refl
+
+unknown_header_not_read : of [] (text_of (codes "#ifdef A" ∷ codes "#include <stdio.h>" ∷ codes "#endif" ∷ [])) ≡ Ok ([], [])
+unfolding constant_of most mark_at header_of kind_in keyword_of
+unknown_header_not_read = refl
+
+line_end_in_comment : of [] (text_of (codes "#define A /*" ∷ codes "*/ 1" ∷ codes "A" ∷ [])) ≡ Ok (number 1 10 false 0 ∷ [], (codes "A", number 1 10 false 0 ∷ []) ∷ [])
+unfolding constant_of most mark_at header_of kind_in keyword_of
+line_end_in_comment = refl

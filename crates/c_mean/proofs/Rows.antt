@@ -152,3 +152,50 @@ string = refl
 
 string_over_line_end : source (34 ∷ 97 ∷ 10 ∷ 34 ∷ []) ≡ refused BadToken 1 0 1
 string_over_line_end = refl
+
+-- ---- further texts
+
+three_question_marks : source (codes "a ???") ≡ refused Splice 1 2 3
+unfolding mark_at
+three_question_marks = refl
+
+trigraph_in_comment : source (codes "/* ?? */") ≡ refused Splice 1 3 4
+trigraph_in_comment = refl
+
+-- "??"
+trigraph_in_string : source (34 ∷ 63 ∷ 63 ∷ 34 ∷ []) ≡ refused Splice 1 1 2
+trigraph_in_string = refl
+
+-- "?"?
+marks_apart : source (34 ∷ 63 ∷ 34 ∷ 63 ∷ []) ≡ Ok (tk (Quoted (codes "?")) true 1 0 3 ∷ tk (Mark (codes "?")) false 1 3 4 ∷ [])
+unfolding mark_at
+marks_apart = refl
+
+digraph_of_hash : source (codes "%:") ≡ refused BadToken 1 0 1
+unfolding mark_at
+digraph_of_hash = refl
+
+shift_before_colon : source (codes "a<<:") ≡ Ok (tk (Word (codes "a")) true 1 0 1 ∷ tk (Mark (codes "<<")) false 1 1 3 ∷ tk (Mark (codes ":")) false 1 3 4 ∷ [])
+unfolding mark_at
+shift_before_colon = refl
+
+two_points : source (codes "..") ≡ Ok (tk (Mark (codes ".")) true 1 0 1 ∷ tk (Mark (codes ".")) false 1 1 2 ∷ [])
+unfolding mark_at
+two_points = refl
+
+comment_between : source (codes "a/**/b") ≡ Ok (tk (Word (codes "a")) true 1 0 1 ∷ tk (Word (codes "b")) false 1 5 6 ∷ [])
+comment_between = refl
+
+line_comment_at_end : source (codes "a//") ≡ Ok (tk (Word (codes "a")) true 1 0 1 ∷ [])
+line_comment_at_end = refl
+
+-- a carriage return ends no line
+carriage_return : source (97 ∷ 13 ∷ 98 ∷ []) ≡ Ok (tk (Word (codes "a")) true 1 0 1 ∷ tk (Word (codes "b")) false 1 2 3 ∷ [])
+carriage_return = refl
+
+no_byte_of_a_token : source (codes "a @") ≡ refused BadToken 1 2 3
+unfolding mark_at
+no_byte_of_a_token = refl
+
+nothing : source [] ≡ Ok []
+nothing = refl
