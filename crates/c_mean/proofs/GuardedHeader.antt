@@ -9,32 +9,32 @@ use Rattle.c_mean.specs.Preprocessing.{each_behind, faults_at, Named, macros_at,
 use Rattle.c_mean.proofs.Group.{IsGroup, group-line, group-append, group-conditional, plain-define, plain-standard, each_behind-append}
 use Rattle.c_mean.proofs.Defines.{defines, AreNew, faults-defines, macros-defines, tokens-defines, group-defines}
 
-abbrev B : Type 0
-B = Line (Unit {0})
+abbrev BareLine : Type 0
+BareLine = Line (Unit {0})
 
 abbrev error_name : List ℕ
 error_name = codes "EINVAL"
 
 -- what stands behind the guard's `#ifndef`
-abbrev inside : List ℕ → List Bare → List (Named (Unit {0})) → List B
+abbrev inside : List ℕ → List Bare → List (Named (Unit {0})) → List BareLine
 inside g e ds =
     (define tt g [] ∷ []) ++ ((standard stdbool_h ∷ []) ++ ((standard stddef_h ∷ []) ++ ((standard stdint_h ∷ [])
     ++ ((conditional tt false error_name ∷ ((define tt error_name e ∷ []) ++ endif tt ∷ [])) ++ defines tt ds))))
 
-abbrev pub guarded_header : List ℕ → List Bare → List (Named (Unit {0})) → List B
+abbrev pub guarded_header : List ℕ → List Bare → List (Named (Unit {0})) → List BareLine
 guarded_header g e ds = conditional tt false g ∷ (inside g e ds ++ endif tt ∷ [])
 
 -- what is read before the macros
-abbrev pub guarded_front : List ℕ → List Bare → List B
+abbrev pub guarded_front : List ℕ → List Bare → List BareLine
 guarded_front g e = define tt g [] ∷ standard stdbool_h ∷ standard stddef_h ∷ standard stdint_h ∷ define tt error_name e ∷ []
 
-abbrev front_before : List ℕ → List B → List B
+abbrev front_before : List ℕ → List BareLine → List BareLine
 front_before g before = (((before ++ define tt g [] ∷ []) ++ standard stdbool_h ∷ []) ++ standard stddef_h ∷ []) ++ standard stdint_h ∷ []
 
-abbrev error_lines : List ℕ → List Bare → List B → List B
+abbrev error_lines : List ℕ → List Bare → List BareLine → List BareLine
 error_lines g e before = cond (same_bool false (is_macro error_name (front_before g before))) (define tt error_name e ∷ []) []
 
-abbrev leaves : List ℕ → List Bare → List (Named (Unit {0})) → List B → List B
+abbrev leaves : List ℕ → List Bare → List (Named (Unit {0})) → List BareLine → List BareLine
 leaves g e ds before =
     (define tt g [] ∷ []) ++ ((standard stdbool_h ∷ []) ++ ((standard stddef_h ∷ []) ++ ((standard stdint_h ∷ []) ++ (error_lines g e before ++ defines tt ds))))
 
@@ -63,7 +63,7 @@ header-read g e ds h =
 
 -- ---- what is left
 
-source-read : (header : List B → List B) → read_lines header [] [] (balanced [] (quoted ∷ [])) ≡ header []
+source-read : (header : List BareLine → List BareLine) → read_lines header [] [] (balanced [] (quoted ∷ [])) ≡ header []
 source-read header = append-nil (header [])
 
 front-faults : (g : List ℕ) (e : List Bare) → bytes_eq g error_name ≡ false → each_behind faults_at [] (guarded_front g e) ≡ []

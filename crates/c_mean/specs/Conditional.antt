@@ -6,7 +6,7 @@ use Rattle.c_mean.specs.MacroDefinition.{is_macro, same_bool}
 
 -- ---- whole conditionals
 
--- the `#endif` of a conditional follows; so many are open inside it
+-- the `#endif` of a conditional stands in the lines, before which so many others are open inside it
 abbrev pub is_ended : {P : Type 0} → ℕ → List (Line P) → Bool
 is_ended depth [] = false
 is_ended depth (conditional p wanted name ∷ ls) = is_ended (suc depth) ls
@@ -18,8 +18,8 @@ abbrev pub if_ended : {P : Type 0} → Bool → Line P → P → Line P
 if_ended true l p = l
 if_ended false l p = unbalanced p
 
--- a file whose conditional lines without their whole are unbalanced
--- (for each conditional that is open, the innermost first: whether its `#else` came)
+-- the lines of a file, in which a conditional line that belongs to no whole conditional is unbalanced;
+-- `elses` says of each open conditional, the innermost first, whether its `#else` came
 abbrev pub balanced : {P : Type 0} → List Bool → List (Line P) → List (Line P)
 balanced elses [] = []
 balanced elses (conditional p wanted name ∷ ls) = if_ended (is_ended 0 ls) (conditional p wanted name) p ∷ balanced (false ∷ elses) ls
@@ -35,7 +35,7 @@ balanced elses (l ∷ ls) = l ∷ balanced elses ls
 abbrev pub is_read : List Bool → Bool
 is_read reads = list_all (λ r. r) reads
 
--- what a line leaves behind the lines that were read before it; in a part that is not read only conditionals count
+-- what a line leaves behind the lines that were read before it; in a part that is not read only conditionals are looked at
 abbrev pub left_by : {P : Type 0} → (List (Line P) → List (Line P)) → List Bool → List (Line P) → Line P → List (Line P)
 left_by header reads before (conditional p wanted name) = []
 left_by header reads before (otherwise p) = []
