@@ -23,19 +23,19 @@ abbrev number : ℕ → ℕ → Bool → ℕ → TokenKind
 number value base unsigned longs = Number (record { value = value; base = base; unsigned = unsigned; longs = longs })
 
 -- the kinds of the tokens, and the macros with those of their bodies
-abbrev Seen : Type 0
-Seen = List TokenKind × List (List ℕ × List TokenKind)
+abbrev Outcome : Type 0
+Outcome = List TokenKind × List (List ℕ × List TokenKind)
 
 abbrev kinds_of : List Token → List TokenKind
 kinds_of ts = map (λ t. t.kind) ts
 
-abbrev seen : Result Preprocessed Refusal → Result Seen Refusal
-seen (Ok p) = Ok (kinds_of p.tokens, map (λ m. (m.name, kinds_of m.body)) p.macros)
-seen (Err e) = Err e
+abbrev outcome : Result Preprocessed Refusal → Result Outcome Refusal
+outcome (Ok p) = Ok (kinds_of p.tokens, map (λ m. (m.name, kinds_of m.body)) p.macros)
+outcome (Err e) = Err e
 
 -- of a header `h.h` and a source
-abbrev of : List ℕ → List ℕ → Result Seen Refusal
-of header source = seen (preprocessed_texts header (codes "h.h") source)
+abbrev of : List ℕ → List ℕ → Result Outcome Refusal
+of header source = outcome (preprocessed_texts header (codes "h.h") source)
 
 end_alone : of [] (text_of (codes "#endif" ∷ [])) ≡ Err (record { kind = Unbalanced; place = record { header = false; line = 1; start = 0; end = 1 } })
 unfolding constant_of most mark_at header_of kind_in keyword_of
