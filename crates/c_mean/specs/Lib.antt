@@ -1,0 +1,15 @@
+pub mod Refusal
+pub mod Characters
+pub mod IntegerConstant
+pub mod Punctuator
+pub mod Piece
+pub mod Splice
+pub mod Tokens
+pub mod SeenToken
+pub mod BareTokens
+pub mod StandardHeader
+pub mod Directive
+pub mod MacroDefinition
+pub mod Conditional
+pub mod Preprocessing
+pub mod BarePreprocessing
