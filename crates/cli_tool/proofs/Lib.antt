@@ -1,3 +1,4 @@
 pub mod OwnNames
 pub mod Endings
 pub mod Causes
+pub mod PartLines

@@ -10,3 +10,4 @@ pub mod Plan
 pub mod Endings
 pub mod Causes
 pub mod Telling
+pub mod HeaderMeaning

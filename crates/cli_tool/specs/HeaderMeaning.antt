@@ -1,0 +1,50 @@
+-- What a header says as C (ISO/IEC 9899:1999, 6.4 and 6.10): its macros, beside a source that includes it alone.
+use Rattle.std.specs.Prelude.{◌≡◌, ℕ, Bool, true, false, if◌then◌else◌, List, [], ◌∷◌, ◌++◌, map, codes, Result, Ok}
+use Rattle.std.specs.List.{flat_map}
+use Rattle.can_model.specs.declared.database.Message.{Message}
+use Rattle.c_mean.specs.declared.token.TokenKind.{TokenKind}
+use Rattle.c_mean.specs.declared.token.TokenKind.TheVariants.{Constant as Number, Mark}
+use Rattle.c_mean.specs.declared.preprocessed.Preprocessed.{Preprocessed}
+use Rattle.c_mean.specs.Preprocessing.{preprocessed_texts}
+use Rattle.c_mean.specs.BarePreprocessing.{macro_kinds}
+use Rattle.cli_tool.specs.Header.{guard_of, prefix_of}
+
+-- a macro's name and the kinds of its body's tokens
+abbrev pub Macro : Type 0
+Macro = List ℕ × List TokenKind
+
+-- a constant without `l`
+abbrev pub number : ℕ → ℕ → Bool → TokenKind
+number value base unsigned = Number (record { value = value; base = base; unsigned = unsigned; longs = 0 })
+
+-- the same in brackets
+abbrev pub in_brackets : TokenKind → List TokenKind
+in_brackets k = Mark (codes "(") ∷ k ∷ Mark (codes ")") ∷ []
+
+-- the frame id, the length, and 1 where the frame is extended, else 0
+abbrev pub constants_of : List ℕ → Message → List Macro
+constants_of name m =
+    (prefix_of name m ++ codes "_FRAME_ID", in_brackets (number m.id 16 true))
+    ∷ (prefix_of name m ++ codes "_LENGTH", in_brackets (number m.length 10 true))
+    ∷ (prefix_of name m ++ codes "_IS_EXTENDED", in_brackets (number (if m.extended then 1 else 0) 10 false))
+    ∷ []
+
+-- the guard, the error's number, and three constants for each message
+abbrev pub macros_of : List ℕ → List Message → List Macro
+macros_of name messages =
+    (guard_of name, []) ∷ (codes "EINVAL", number 22 10 false ∷ []) ∷ flat_map (constants_of name) messages
+
+-- the name of the header of a database
+abbrev pub header_name : List ℕ → List ℕ
+header_name name = name ++ codes ".h"
+
+-- a source that is the include of the header of that name, and a line end
+abbrev pub including : List ℕ → List ℕ
+including name = codes "#include " ++ 34 ∷ (header_name name ++ 34 ∷ 10 ∷ [])
+
+-- the header has no fault of tokens or of preprocessing, leaves no token, and defines these macros and no other ones
+pub record DeclaresConstants (name : List ℕ) (messages : List Message) (header : List ℕ) : Type 0 where
+  pub left : Preprocessed
+  pub no_fault : preprocessed_texts header (header_name name) (including name) ≡ Ok left
+  pub no_tokens : left.tokens ≡ []
+  pub macros : map macro_kinds left.macros ≡ macros_of name messages
