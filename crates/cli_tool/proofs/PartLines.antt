@@ -5,6 +5,7 @@ use Rattle.std.specs.declared.option.Option.{Option}
 use Rattle.std.specs.declared.option.Option.TheVariants.{None, Some}
 use Rattle.std.specs.List.{AllByRecursion, flat_map}
 use Rattle.std.specs.Fmt.{decimal, digits}
+use Rattle.std.proofs.lemmas.Fmt.{decimal_digit}
 use Rattle.std.proofs.lemmas.Bool.Decides.{nat_tests}
 use Rattle.c_mean.specs.Characters.{Pass, IsName}
 use Rattle.c_mean.specs.Splice.{is_plain}
@@ -84,18 +85,25 @@ line-plain : (name : List ℕ) (n : ℕ) → IsName name → n < 2 ^ 64 → AreL
 unfolding define_line body_text
 line-plain name n h k = regrouped _ _ _ (simp (append_assoc, append-nil)) (define_number-line None name (decimal n ++ []) (constant n 10 (record { unsigned = false; longs = 0 })) h (decimal-number n [] _ k no-suffix))
 
+-- digits with a `u` before a bracket that ends the line
+bracket-end : (name front ds : List ℕ) → name ++ (front ++ ((ds ++ 117 ∷ []) ++ 41 ∷ 10 ∷ [])) ≡ (name ++ (front ++ (ds ++ 117 ∷ 41 ∷ []))) ++ 10 ∷ []
+bracket-end name front ds =
+    ap (λ (t : List ℕ). name ++ (front ++ t)) (append_assoc ds (117 ∷ []) (41 ∷ 10 ∷ []) ∙ sym (append_assoc ds (117 ∷ 41 ∷ []) (10 ∷ [])))
+    ∙ ap (λ (t : List ℕ). name ++ t) (sym (append_assoc front (ds ++ 117 ∷ 41 ∷ []) (10 ∷ [])))
+    ∙ sym (append_assoc name (front ++ (ds ++ 117 ∷ 41 ∷ [])) (10 ∷ []))
+
 line-hexadecimal : (name : List ℕ) (n : ℕ) → IsName name → n < 2 ^ 64 → AreLines None (define_line name (Hexadecimal n)) (define tt name (body_tokens (Hexadecimal n)) ∷ [])
 unfolding define_line body_text
-line-hexadecimal name n h k = regrouped _ _ _ (simp (append_assoc, append-nil)) (define_bracketed-line None name (48 ∷ 120 ∷ (digits 16 false n ++ 117 ∷ [])) (constant n 16 (record { unsigned = true; longs = 0 })) h (hexadecimal-number n (117 ∷ []) _ k u-suffix.suffix))
+line-hexadecimal name n h k = regrouped _ _ _ (ap (λ (t : List ℕ). codes "#define " ++ t) (bracket-end name (32 ∷ 40 ∷ 48 ∷ 120 ∷ []) (digits 16 false n))) (define_bracketed-line None name (48 ∷ 120 ∷ (digits 16 false n ++ 117 ∷ [])) (constant n 16 (record { unsigned = true; longs = 0 })) h (hexadecimal-number n (117 ∷ []) _ k u-suffix.suffix))
 
 line-unsigned : (name : List ℕ) (n : ℕ) → IsName name → n < 2 ^ 64 → AreLines None (define_line name (Unsigned n)) (define tt name (body_tokens (Unsigned n)) ∷ [])
 unfolding define_line body_text
-line-unsigned name n h k = regrouped _ _ _ (simp (append_assoc, append-nil)) (define_bracketed-line None name (decimal n ++ 117 ∷ []) (constant n 10 (record { unsigned = true; longs = 0 })) h (decimal-number n (117 ∷ []) _ k u-suffix))
+line-unsigned name n h k = regrouped _ _ _ (ap (λ (t : List ℕ). codes "#define " ++ t) (bracket-end name (32 ∷ 40 ∷ []) (decimal n))) (define_bracketed-line None name (decimal n ++ 117 ∷ []) (constant n 10 (record { unsigned = true; longs = 0 })) h (decimal-number n (117 ∷ []) _ k u-suffix))
 
 line-flag : (name : List ℕ) (b : Bool) → IsName name → AreLines None (define_line name (Flag b)) (define tt name (body_tokens (Flag b)) ∷ [])
 unfolding define_line body_text
-line-flag name true h = regrouped _ _ _ (simp (append_assoc, append-nil)) (define_bracketed-line None name (decimal 1 ++ []) (constant 1 10 (record { unsigned = false; longs = 0 })) h (decimal-number 1 [] _ (omega arith) no-suffix))
-line-flag name false h = regrouped _ _ _ (simp (append_assoc, append-nil)) (define_bracketed-line None name (decimal 0 ++ []) (constant 0 10 (record { unsigned = false; longs = 0 })) h (decimal-number 0 [] _ (omega arith) no-suffix))
+line-flag name true h = regrouped _ _ _ (simp append_assoc (rw (decimal_digit 1 (omega arith)) refl)) (define_bracketed-line None name (decimal 1 ++ []) (constant 1 10 (record { unsigned = false; longs = 0 })) h (decimal-number 1 [] _ (omega arith) no-suffix))
+line-flag name false h = regrouped _ _ _ (simp append_assoc (rw (decimal_digit 0 (omega arith)) refl)) (define_bracketed-line None name (decimal 0 ++ []) (constant 0 10 (record { unsigned = false; longs = 0 })) h (decimal-number 0 [] _ (omega arith) no-suffix))
 
 line-define : (name : List ℕ) (body : MacroBody) → IsName name → IsSmall body → AreLines None (define_line name body) (define tt name (body_tokens body) ∷ [])
 line-define name Empty h k = line-empty name h
