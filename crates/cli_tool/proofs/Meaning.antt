@@ -24,7 +24,7 @@ use Rattle.c_mean.proofs.TextLines.{AreLines, texts-lines}
 use Rattle.c_mean.proofs.GuardedHeader.{guarded_header, guarded-left}
 use Rattle.cli_tool.specs.Header.{guard_of, prefix_of, header_parts, header_text}
 use Rattle.cli_tool.specs.HeaderInFile.{are_distinct}
-use Rattle.cli_tool.specs.HeaderMeaning.{Macro, constants_of, macros_of, header_name, including, DeclaresConstants}
+use Rattle.cli_tool.specs.HeaderMeaning.{Macro, number, constants_of, macros_of, header_name, including, DeclaresConstants}
 use Rattle.cli_tool.proofs.PartLines.{BareLine, parts-lines}
 use Rattle.cli_tool.proofs.HeaderLines.{AreSmall, message_macros, all_macros, error_body, say-header, identifier-bytes}
 use Rattle.cli_tool.proofs.NewMacros.{ids, guard-error, macros-new}
@@ -79,5 +79,5 @@ header-declares name ms h s d =
       left = left.0;
       no_fault = left.1;
       no_tokens = no-tokens left.0.tokens left.2;
-      macros = left.3 ∙ ap (λ (rest : List Macro). named_kinds (g, []) ∷ named_kinds (codes "EINVAL", error_body) ∷ rest) (kinds-macros name ms);
+      macros = left.3 ∙ ap (λ (rest : List Macro). (g, []) ∷ (codes "EINVAL", number 22 10 false ∷ []) ∷ rest) (kinds-macros name ms);
     }
