@@ -1,5 +1,5 @@
 -- There is one list of tokens that a text spells: a spelling at a place is the piece that is read there, by its first byte and its length.
-use Rattle.std.proofs.Common.{◌≡◌, ◌≢◌, ◌⊎◌, inl, inr, ℕ, zero, suc, ◌+◌, ◌-◌, ◌<◌, ◌≤◌, Bool, true, false, cond, ◌||◌, eqb, List, [], ◌∷◌, ◌++◌, length, take, drop, refl, sym, ap, subst, ◌∙◌, append_assoc, length-append, arith}
+use Rattle.std.proofs.Common.{◌≡◌, ◌≢◌, ◌⊎◌, inl, inr, ℕ, zero, suc, ◌+◌, ◌≤◌, Bool, true, false, cond, ◌||◌, eqb, List, [], ◌∷◌, ◌++◌, length, take, refl, sym, ap, subst, ◌∙◌, append_assoc, length-append, arith}
 use Rattle.std.specs.Prelude.{count_by}
 use Rattle.std.specs.List.{AllByRecursion, list_any}
 use Rattle.std.specs.Char.{is_ascii_digit}
@@ -12,15 +12,14 @@ use Rattle.std.proofs.Math.Seq.{take-append_seam, drop-append_seam}
 use Rattle.can_model.specs.declared.refusal.TextKind.{TextKind}
 use Rattle.can_model.specs.declared.refusal.TextKind.TheVariants.{BadByte, OpenString}
 use Rattle.limit_fraction.specs.Digits.{AreDigits}
-use Rattle.limit_fraction.specs.Spelling.{IsSignificand}
 use Rattle.limit_fraction.proofs.ReadBack.{first_digit}
 use Rattle.dbc_reader.specs.declared.token.Token.{Token}
 use Rattle.dbc_reader.specs.declared.token.Token.TheVariants.{Word, Number, String, Mark, Bad}
 use Rattle.dbc_reader.specs.declared.token.Lexed.{Lexed}
 use Rattle.dbc_reader.specs.Tokens.{is_blank, is_letter, is_word_byte, marks, is_mark, word_length, number_length, one_more, closing, Piece, string_piece, number_piece, piece, line_after, is_bad, scan, without_mark, tokens}
 use Rattle.dbc_reader.specs.Spelling.{IsWord, EndsWord, IsNumber, IsLongest, HasNoEnd, IsContent, IsOpen, BeginsNone, SpellsToken, line_behind, AreBlanks, AreTokens, IsTokenList}
-use Rattle.dbc_reader.proofs.NumberSpelling.{NumberAt, number_at, number_most, number_some}
-use Rattle.dbc_reader.proofs.TokenSpelling.{word_length-cons, not_equal, number_piece-suc, line_behind-one, line_behind-more}
+use Rattle.dbc_reader.proofs.NumberSpelling.{number_at, number_most, number_some}
+use Rattle.dbc_reader.proofs.TokenSpelling.{word_length-cons, number_piece-suc, line_behind-one, line_behind-more}
 use Rattle.dbc_reader.proofs.Scan.{scan-skip}
 
 -- the piece at the first byte is this token, of which so many bytes follow, and the others stand behind it

@@ -1,5 +1,5 @@
 -- A text spells its tokens: the piece at each place is spelled there, and reading goes on behind it.
-use Rattle.std.proofs.Common.{◌≡◌, ◌≢◌, ◌⊎◌, inl, inr, ℕ, zero, suc, ◌+◌, ◌-◌, ◌<◌, ◌≤◌, Bool, true, false, cond, eqb, List, [], ◌∷◌, ◌++◌, length, take, drop, refl, sym, ap, subst, ◌∙◌, append_assoc, length-append, length-drop, arith}
+use Rattle.std.proofs.Common.{◌≡◌, ◌≢◌, inl, inr, ℕ, zero, suc, ◌+◌, ◌-◌, ◌≤◌, Bool, true, false, cond, eqb, List, [], ◌∷◌, ◌++◌, length, take, drop, refl, sym, ap, subst, ◌∙◌, append_assoc, length-append, length-drop, arith}
 use Rattle.std.specs.Prelude.{count_by}
 use Rattle.std.specs.List.{AllByRecursion, take_while}
 use Rattle.std.specs.declared.option.Option.{Option}
@@ -9,13 +9,12 @@ use Rattle.std.proofs.lemmas.List.Sums.{take_while-cons, sum_by-cons, sum_by-app
 use Rattle.std.proofs.lemmas.Bool.{eqb-true}
 use Rattle.std.proofs.lemmas.Bool.Decides.{nat_tests}
 use Rattle.std.proofs.Math.Seq.{take-append_seam, drop-append_seam}
-use Rattle.can_model.specs.declared.refusal.TextKind.TheVariants.{BadByte, OpenString}
 use Rattle.dbc_reader.specs.declared.token.Token.{Token}
-use Rattle.dbc_reader.specs.declared.token.Token.TheVariants.{Word, Number, String, Mark, Bad}
+use Rattle.dbc_reader.specs.declared.token.Token.TheVariants.{Word, Number, Mark}
 use Rattle.dbc_reader.specs.declared.token.Lexed.{Lexed}
 use Rattle.dbc_reader.specs.Tokens.{is_blank, is_letter, is_word_byte, is_mark, word_length, number_length, one_more, closing, Piece, string_piece, number_piece, piece, line_after, is_bad, scan, without_mark, tokens}
-use Rattle.dbc_reader.specs.Spelling.{IsWord, EndsWord, IsNumber, IsLongest, HasNoEnd, IsContent, IsOpen, BeginsNone, SpellsToken, line_behind, AreBlanks, AreTokens, IsTokenList}
-use Rattle.dbc_reader.proofs.NumberSpelling.{NumberAt, number_at, number_most, number_some}
+use Rattle.dbc_reader.specs.Spelling.{EndsWord, IsNumber, IsLongest, HasNoEnd, IsContent, SpellsToken, line_behind, AreTokens, IsTokenList}
+use Rattle.dbc_reader.proofs.NumberSpelling.{number_at, number_most, number_some}
 use Rattle.dbc_reader.proofs.Scan.{line_then, scan-skip}
 
 take_front : (bs front rest : List ℕ) (n : ℕ) → bs ≡ front ++ rest → n ≡ length front → take n bs ≡ front
