@@ -15,6 +15,7 @@ abbrev pub EndsRun : Test → List Lexed → Type 0
 EndsRun p [] = Unit {0}
 EndsRun p (x ∷ xs) = passes p x.token ≡ false
 
+-- each of these tokens passes
 abbrev pub Passing : Test → List Lexed → Type 0
 Passing p ts = AllByRecursion (λ x. passes p x.token ≡ true) ts
 
