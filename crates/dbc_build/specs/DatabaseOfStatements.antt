@@ -14,6 +14,7 @@ use Rattle.dbc_reader.specs.declared.statement.Body.TheVariants as bodies
 abbrev pub message_of : ℕ → ℕ → List ℕ → ℕ → Message
 message_of line id name len = record { id = id % 2 ^ 31; extended = nat_le (2 ^ 31) id; name = name; length = len; cycle = None; comment = []; line = line }
 
+-- the message of a statement on this line, if it makes one
 abbrev pub message_from : ℕ → Body → Option Message
 message_from line (bodies.Message id name len) = Some (message_of line id name len)
 message_from line bodies.Skipped = None
@@ -26,6 +27,7 @@ message_in statement = message_from statement.line statement.body
 unfoldable pub is_placeholder : List ℕ → Bool
 is_placeholder name = bytes_eq name (codes "VECTOR__INDEPENDENT_SIG_MSG")
 
+-- whether a message is another one
 abbrev pub is_kept : Message → Bool
 is_kept message = not (is_placeholder message.name)
 

@@ -9,3 +9,6 @@ pub mod FirstFault
 pub mod Answered
 pub mod Words
 pub mod Worked
+pub mod NumberSpelling
+pub mod TokenSpelling
+pub mod OneCut

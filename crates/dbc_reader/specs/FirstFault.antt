@@ -7,7 +7,8 @@ use Rattle.dbc_reader.specs.declared.token.Token.{Token}
 use Rattle.dbc_reader.specs.declared.token.Token.TheVariants.{Number, Bad}
 use Rattle.dbc_reader.specs.declared.token.Lexed.{Lexed}
 use Rattle.dbc_reader.specs.declared.statement.Statement.{Statement}
-use Rattle.dbc_reader.specs.Tokens.{tokens, end_line}
+use Rattle.dbc_reader.specs.Tokens.{end_line}
+use Rattle.dbc_reader.specs.Spelling.{IsTokenList}
 use Rattle.dbc_reader.specs.Reading.{fault_at, too_large}
 use Rattle.dbc_reader.specs.Statements.{AreStatements}
 
@@ -44,4 +45,4 @@ pub record IsFirstTokenFault (end : ℕ) (ts : List Lexed) (fault : Refusal) : T
 
 -- a text beyond the limit has that fault alone
 abbrev pub IsFirstFault : List ℕ → Refusal → Type 0
-IsFirstFault text fault = MatchBool (too_large text) (fault ≡ fault_at TooLarge 0) (IsFirstTokenFault (end_line text) (tokens text) fault)
+IsFirstFault text fault = MatchBool (too_large text) (fault ≡ fault_at TooLarge 0) ((ts : List Lexed) × IsTokenList ts text × IsFirstTokenFault (end_line text) ts fault)

@@ -1,4 +1,5 @@
 pub mod Tokens
+pub mod Spelling
 pub mod Keywords
 pub mod Number
 pub mod Template

@@ -20,9 +20,11 @@ abbrev pub ◌>>=◌ : {A B : Type 0} → Result A Refusal → (A → Result B R
 (Ok x) >>= f = f x
 (Err e) >>= f = Err e
 
+-- a fault of this kind at this line
 abbrev pub fault_at : TextKind → ℕ → Refusal
 fault_at kind line = record { kind = kind; line = line }
 
+-- a field and what follows, or a fault at this line
 abbrev pub with_rest : Result Field TextKind → ℕ → List Lexed → Result (Field × List Lexed) Refusal
 with_rest (Ok f) line rest = Ok (f, rest)
 with_rest (Err kind) line rest = Err (fault_at kind line)
@@ -32,6 +34,7 @@ abbrev pub one_at : ℕ → Want → List Lexed → Result (Field × List Lexed)
 one_at end w [] = Err (fault_at Unexpected end)
 one_at end w (x ∷ xs) = with_rest (given w x.token) x.line xs
 
+-- whether there is a next token and it passes
 abbrev pub next_passes : Test → List Lexed → Bool
 next_passes p [] = false
 next_passes p (x ∷ xs) = passes p x.token
@@ -52,10 +55,12 @@ template_at end (run p t) ts = template_at end t (past p ts)
 abbrev pub made_at : ℕ → Row → List Lexed → Result (Body × List Lexed) Refusal
 made_at end row ts = template_at end row.template ts >>= λ fs. Ok (row.body fs.0, fs.1)
 
+-- the statement of a row, behind its first token
 abbrev pub row_at : ℕ → Option Row → Lexed → List Lexed → Result (Statement × List Lexed) Refusal
 row_at end None x xs = Err (fault_at Unexpected x.line)
 row_at end (Some row) x xs = made_at end row xs >>= λ b. Ok (record { line = x.line; body = b.0 }, b.1)
 
+-- the statement behind this first token
 abbrev pub begun_at : ℕ → Token → Lexed → List Lexed → Result (Statement × List Lexed) Refusal
 begun_at end (Word w) x xs = row_at end (row_of w) x xs
 begun_at end (Bad kind) x xs = Err (fault_at kind x.line)

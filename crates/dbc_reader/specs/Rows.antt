@@ -7,6 +7,7 @@ use Rattle.dbc_reader.specs.declared.statement.Body.{Body}
 use Rattle.dbc_reader.specs.declared.statement.Body.TheVariants.{Message, Skipped}
 use Rattle.dbc_reader.specs.Template.{word, string, mark, whole_number, is_string, is_name, Template, done, one, choose, run, Field, number_field, text_field, no_field}
 
+-- a statement of one kind: its first word, the template behind it, and what the fields of that make
 pub record Row : Type 0 where
   pub first : List ℕ
   pub template : Template
@@ -33,6 +34,7 @@ message_body fields = Skipped
 abbrev pub message : Row
 message = record { first = codes "BO_"; template = one (whole_number 4294967295) (one word (one (mark 58) (one (whole_number 65535) (one word done)))); body = message_body }
 
+-- all kinds of statements
 abbrev pub rows : List Row
 rows = version ∷ nodes ∷ message ∷ []
 
@@ -41,5 +43,6 @@ abbrev pub row_among : List Row → List ℕ → Option Row
 row_among [] w = None
 row_among (r ∷ rs) w = if bytes_eq w r.first then Some r else row_among rs w
 
+-- the row of this first word, if one has it
 abbrev pub row_of : List ℕ → Option Row
 row_of w = row_among rows w

@@ -5,7 +5,7 @@ use Rattle.std.specs.declared.option.Option.TheVariants.{Some}
 use Rattle.dbc_reader.specs.declared.token.Token.TheVariants.{Word}
 use Rattle.dbc_reader.specs.declared.token.Lexed.{Lexed}
 use Rattle.dbc_reader.specs.declared.statement.Statement.{Statement}
-use Rattle.dbc_reader.specs.Tokens.{tokens}
+use Rattle.dbc_reader.specs.Spelling.{IsTokenList}
 use Rattle.dbc_reader.specs.Template.{Test, Template, done, one, choose, run, Field, given, passes}
 use Rattle.dbc_reader.specs.Rows.{Row, row_of}
 use Rattle.dbc_reader.specs.Reading.{too_large}
@@ -15,6 +15,7 @@ abbrev pub EndsRun : Test → List Lexed → Type 0
 EndsRun p [] = Unit {0}
 EndsRun p (x ∷ xs) = passes p x.token ≡ false
 
+-- each of these tokens passes
 abbrev pub Passing : Test → List Lexed → Type 0
 Passing p ts = AllByRecursion (λ x. passes p x.token ≡ true) ts
 
@@ -45,6 +46,6 @@ abbrev pub AreStatements : List Statement → List Lexed → Type 0
 AreStatements [] ts = ts ≡ []
 AreStatements (s ∷ ss) ts = (rest : List Lexed) × BeginsWith s ts rest × AreStatements ss rest
 
--- the text is within the limit, and these are its statements
+-- the text is within the limit, and its tokens are these statements
 abbrev pub IsStatementList : List Statement → List ℕ → Type 0
-IsStatementList ss text = (too_large text ≡ false) × AreStatements ss (tokens text)
+IsStatementList ss text = (too_large text ≡ false) × ((ts : List Lexed) × IsTokenList ts text × AreStatements ss ts)

@@ -40,6 +40,7 @@ pub data Field : Type 0 where
   text_field : List ℕ → Field
   no_field : Field
 
+-- the number, or the fault of one that does not fit
 abbrev pub number_or_fault : Option ℕ → Result Field TextKind
 number_or_fault None = Err BadNumber
 number_or_fault (Some n) = Ok (number_field n)
@@ -56,6 +57,7 @@ given (mark b) t = Err Unexpected
 given (whole_number limit) (Number digits) = number_or_fault (whole_in limit digits)
 given (whole_number limit) t = Err Unexpected
 
+-- whether a token passes a test
 abbrev pub passes : Test → Token → Bool
 passes is_string (String bytes) = true
 passes is_string t = false

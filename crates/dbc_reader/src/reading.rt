@@ -1,38 +1,42 @@
 //! From tokens to statements; `end` is the line of the text's end.
-ghost use Rattle.std.specs.Prelude.{◌≡◌, ℕ, ◌^◌, ◌<◌, ◌∷◌, [], List, length, IfOk};
+ghost use Rattle.std.specs.Prelude.{◌≡◌, ℕ, ◌^◌, ◌<◌, List, length, IfOk};
 ghost use Rattle.std.specs.Bool.{OnFalse};
 ghost use Rattle.can_model.specs.Refusal.{Refusal, Gives};
-ghost use Rattle.dbc_reader.specs.Template.{no_field};
 ghost use Rattle.dbc_reader.specs.Rows as rows;
-ghost use Rattle.dbc_reader.specs.Reading.{template_at, made_at, statement_at, all_of, too_large, statements_of};
+ghost use Rattle.dbc_reader.specs.Reading.{made_at, statement_at, all_of, too_large, statements_of};
 ghost use Rattle.dbc_reader.specs.Statements.{IsStatementList};
 ghost use Rattle.dbc_reader.specs.FirstFault.{IsFirstFault};
 
 use crate::lexing::{end_line, tokens_of};
 use crate::statement::{Body, Statement};
-use crate::taking::{past_names, take_mark, take_whole, take_word};
+use crate::taking::{fault, past_names, take_mark, take_whole, take_word};
 use crate::token::{Lexed, Token};
 use can_model::{TEXT_LIMIT, TextFault, TextKind};
 use cg_out::Text;
 use std::alloc::Global;
 
-/// The statements of a DBC text, or its first fault.
+/// The statements of a DBC text, in their order.
+///
+/// # Errors
+///
+/// The first fault of the text and its line: the first token that no statements go on with, or
+/// the end inside a statement. A text longer than `TEXT_LIMIT` is TooLarge at line 0, whatever
+/// else is wrong with it. Or memory ran out.
 pub fn statements(alloc: Global, text: &[u8]) -> Result<Vec<Statement>, TextFault>
     ensures exact { Gives (λ v. v.items) result (statements_of text.now) }
 
-    // An answer is the list whose statements' tokens, joined in order, are the text's tokens; and such a list is the answer.
+    // The statements' tokens, joined in order, are the text's tokens; such a list is answered.
     ensures found { IfOk result (λ v. IsStatementList v.items text.now) }
-    ensures only { (ss : List Statement) → IsStatementList ss text.now → Gives (λ v. v.items) result (Ok ss) }
+    ensures only { (ss : List Statement) → IsStatementList ss text.now
+        → Gives (λ v. v.items) result (Ok ss) }
 
-    // A fault is that of the first token that no list of statements goes on with; and such a fault is the answer.
-    ensures fault { (kind : TextKind) (line : ℕ) → result ≡ Err (TextFault.Fault kind line) → IsFirstFault text.now (record { kind = kind; line = line }) }
+    // No list of statements goes on with the token at the fault; such a fault is answered.
+    ensures fault { (kind : TextKind) (line : ℕ) → result ≡ Err (TextFault.Fault kind line)
+        → IsFirstFault text.now (record { kind = kind; line = line }) }
     ensures refused { (r : Refusal) → IsFirstFault text.now r → Gives (λ v. v.items) result (Err r) }
 {
     if is_too_large(text) {
-        return Err(TextFault::Fault {
-            kind: TextKind::TooLarge,
-            line: 0,
-        });
+        return Err(fault(TextKind::TooLarge, 0));
     }
     let tokens = tokens_of(alloc, text)?;
     read_all(alloc, &tokens, end_line(text))
@@ -80,17 +84,11 @@ fn read_statement<'a>(
                 let (body, rest) = read_message(alloc, rest, end)?;
                 Ok((Statement { line, body }, rest))
             } else {
-                Err(TextFault::Fault {
-                    kind: TextKind::Unexpected,
-                    line,
-                })
+                Err(fault(TextKind::Unexpected, line))
             }
         }
-        Token::Bad(kind) => Err(TextFault::Fault { kind: *kind, line }),
-        _ => Err(TextFault::Fault {
-            kind: TextKind::Unexpected,
-            line,
-        }),
+        Token::Bad(kind) => Err(fault(*kind, line)),
+        _ => Err(fault(TextKind::Unexpected, line)),
     }
 }
 

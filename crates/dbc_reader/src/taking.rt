@@ -10,7 +10,7 @@ use crate::token::{Lexed, Token};
 use can_model::{TextFault, TextKind};
 use cg_out::Text;
 
-fn fault(kind: TextKind, line: u32) -> TextFault
+pub fn fault(kind: TextKind, line: u32) -> TextFault
     ensures { result ≡ TextFault.Fault kind line }
 {
     TextFault::Fault { kind, line }
