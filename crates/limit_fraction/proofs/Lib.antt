@@ -13,3 +13,5 @@ pub mod WholeNumbers
 pub mod Quotients
 pub mod Rounding
 pub mod Meeting
+pub mod SameLimits
+pub mod SameScale

@@ -77,7 +77,7 @@ pub rising_greatest : (v y factor : ℤ) → pos 0 <ℤ factor → (v ≤ℤ int
 rising_greatest v y (pos p) h = iff_back (floor_is v y p (omega (arith, ints)))
 rising_greatest v y (negsuc n) h = absurd (omega (arith, ints))
 
-times-neg : (v factor : ℤ) → v *ℤ neg_ℤ factor ≡ neg_ℤ (v *ℤ factor)
+pub times-neg : (v factor : ℤ) → v *ℤ neg_ℤ factor ≡ neg_ℤ (v *ℤ factor)
 times-neg v (pos zero) = *ℤ-zero v ∙ ap neg_ℤ (sym (*ℤ-zero v))
 times-neg v (pos (suc n)) = *ℤ-negsuc v n
 times-neg v (negsuc n) = sym (ap neg_ℤ (*ℤ-negsuc v n) ∙ neg_ℤ-neg_ℤ (v *ℤ pos (suc n)))

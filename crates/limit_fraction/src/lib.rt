@@ -10,3 +10,6 @@ mod scaling;
 pub use limits::{Range, bounds};
 pub use number::{Decimal, NumberFault};
 pub use scaling::{ScaleTooWide, UnitScale, scale};
+
+#[cfg(test)]
+mod tests;

@@ -1,9 +1,11 @@
 //! From decimals to a scale.
-ghost use Rattle.std.specs.Prelude.{◌≡◌, ◌^◌, ◌≤◌, ◌-ℤ◌, ◌<◌, unsigned_abs, min, IfOk, OnOk, OnErr, IfSome, IfNone};
+ghost use Rattle.std.specs.Prelude.{◌≡◌, ◌^◌, ◌≤◌, ◌-ℤ◌, ◌<◌, ◌↔◌, ℤ, unsigned_abs, min, Option, IfOk, OnOk, OnErr, IfSome, IfNone};
 ghost use Rattle.limit_fraction.specs.Number.{natural, in_unit, IsSame};
 ghost use Rattle.limit_fraction.specs.Decimal.{number_of};
 ghost use Rattle.limit_fraction.specs.Unit.{unit_of, cut_off, IsTooWide};
-ghost use Rattle.limit_fraction.specs.Scale.{factor_of, offset_of};
+ghost use Rattle.limit_fraction.specs.declared.number.Decimal.{Decimal};
+ghost use Rattle.limit_fraction.specs.Scale.{factor_of, offset_of, IsScaled};
+ghost use Rattle.limit_fraction.specs.Limits.{MeetsLimits};
 
 use crate::number::Decimal;
 use crate::powers::{times_ten_to, with_sign};
@@ -68,24 +70,17 @@ fn narrow(number: &Decimal, unit: i16, limit: u128) -> Option<i128>
     }
 }
 
-/// The factor and the offset of a signal in its unit, the lesser of their exponents, where a
-/// zero counts for nothing.
-///
-/// # Errors
-///
-/// In that unit the factor reaches 2^60 or the offset reaches 2^100 in size.
-pub fn scale(factor: Decimal, offset: Decimal) -> Result<UnitScale, ScaleTooWide>
-    ensures unit { IfOk result (λ s. s.exponent ≡ unit_of (number_of factor) (number_of offset)) }
-    ensures factor { IfOk result (λ s. s.factor ≡ in_unit (unit_of (number_of factor) (number_of offset)) (number_of factor)) }
-    ensures offset { IfOk result (λ s. s.offset ≡ in_unit (unit_of (number_of factor) (number_of offset)) (number_of offset)) }
-    ensures wide { OnErr result (IsTooWide (number_of factor) (number_of offset)) }
-    ensures narrow { OnOk result (IsTooWide (number_of factor) (number_of offset) → ⊥) }
+/// The scale in the unit of the two, as [`scale`] answers it.
+fn scaled(factor: &Decimal, offset: &Decimal) -> Result<UnitScale, ScaleTooWide>
+    ensures ok { IfOk result (λ s. IsScaled (number_of factor.now) (number_of offset.now) s) }
+    ensures wide { OnErr result (IsTooWide (number_of factor.now) (number_of offset.now)) }
+    ensures narrow { OnOk result (IsTooWide (number_of factor.now) (number_of offset.now) → ⊥) }
 {
-    let exponent = unit(&factor, &offset);
-    let Some(scaled_factor) = narrow(&factor, exponent, FACTOR_LIMIT) else {
+    let exponent = unit(factor, offset);
+    let Some(scaled_factor) = narrow(factor, exponent, FACTOR_LIMIT) else {
         return Err(ScaleTooWide);
     };
-    let Some(scaled_offset) = narrow(&offset, exponent, OFFSET_LIMIT) else {
+    let Some(scaled_offset) = narrow(offset, exponent, OFFSET_LIMIT) else {
         return Err(ScaleTooWide);
     };
     Ok(UnitScale {
@@ -93,4 +88,25 @@ pub fn scale(factor: Decimal, offset: Decimal) -> Result<UnitScale, ScaleTooWide
         offset: scaled_offset,
         exponent,
     })
+}
+
+/// The factor and the offset of a signal in its unit, the lesser of their exponents, where a
+/// zero counts for nothing.
+///
+/// # Errors
+///
+/// In that unit the factor reaches 2^60 or the offset reaches 2^100 in size.
+pub fn scale(factor: Decimal, offset: Decimal) -> Result<UnitScale, ScaleTooWide>
+    ensures ok { IfOk result (λ s. IsScaled (number_of factor) (number_of offset) s) }
+    ensures wide { OnErr result (IsTooWide (number_of factor) (number_of offset)) }
+    ensures narrow { OnOk result (IsTooWide (number_of factor) (number_of offset) → ⊥) }
+
+    // In its unit the scale has the two numbers, and so the same raw values meet any limits.
+    ensures factor { IfOk result (λ s. IsSame (factor_of s) (number_of factor)) }
+    ensures offset { IfOk result (λ s. IsSame (offset_of s) (number_of offset)) }
+    ensures limits { IfOk result (λ s. (minimum maximum : Option Decimal) (v : ℤ)
+        → MeetsLimits (factor_of s) (offset_of s) minimum maximum v
+        ↔ MeetsLimits (number_of factor) (number_of offset) minimum maximum v) }
+{
+    scaled(&factor, &offset)
 }
