@@ -12,3 +12,4 @@ pub mod Worked
 pub mod NumberSpelling
 pub mod TokenSpelling
 pub mod OneCut
+pub mod Bounded

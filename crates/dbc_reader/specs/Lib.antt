@@ -7,3 +7,4 @@ pub mod Rows
 pub mod Reading
 pub mod Statements
 pub mod FirstFault
+pub mod Bounds

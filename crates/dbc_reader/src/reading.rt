@@ -5,6 +5,7 @@ ghost use Rattle.can_model.specs.Refusal.{Refusal, Gives};
 ghost use Rattle.dbc_reader.specs.Rows as rows;
 ghost use Rattle.dbc_reader.specs.Reading.{made_at, statement_at, all_of, too_large, statements_of};
 ghost use Rattle.dbc_reader.specs.Statements.{IsStatementList};
+ghost use Rattle.dbc_reader.specs.Bounds.{AreBounded};
 ghost use Rattle.dbc_reader.specs.FirstFault.{IsFirstFault};
 
 use crate::lexing::{end_line, tokens_of};
@@ -34,6 +35,9 @@ pub fn statements(alloc: Global, text: &[u8]) -> Result<Vec<Statement>, TextFaul
     ensures fault { (kind : TextKind) (line : ℕ) → result ≡ Err (TextFault.Fault kind line)
         → IsFirstFault text.now (record { kind = kind; line = line }) }
     ensures refused { (r : Refusal) → IsFirstFault text.now r → Gives (λ v. v.items) result (Err r) }
+
+    // The numbers of a message have 32 and 16 bits.
+    ensures bounded { IfOk result (λ v. AreBounded v.items) }
 {
     if is_too_large(text) {
         return Err(fault(TextKind::TooLarge, 0));

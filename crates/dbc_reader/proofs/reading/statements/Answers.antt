@@ -1,5 +1,6 @@
 use Rattle.std.proofs.Common.{sym, ◌∙◌}
 use Rattle.dbc_reader.proofs.Answered.{is_found, is_only, is_fault, is_refused}
+use Rattle.dbc_reader.proofs.Bounded.{answer-bounded}
 use Rattle.dbc_reader.proofs.reading.statements.Goals as goal
 
 pub returns-clause-found : goal.returns-clause-found
@@ -13,3 +14,6 @@ returns-clause-fault c = λ kind line e. is_fault c.args.text.now c.read_all.res
 
 pub returns-clause-refused : goal.returns-clause-refused
 returns-clause-refused c = λ r h. is_refused c.args.text.now c.read_all.result r (sym c.is_too_large.ensures.value ∙ c.if-is_too_large.false) h (rw (c.end_line.ensures, c.deref.ensures.value, c.in_ok-tokens.ensures) at c.read_all.ensures)
+
+pub returns-clause-bounded : goal.returns-clause-bounded
+returns-clause-bounded c = answer-bounded c.args.text.now c.read_all.result (rw (c.end_line.ensures, c.deref.ensures.value, c.in_ok-tokens.ensures) at c.read_all.ensures)

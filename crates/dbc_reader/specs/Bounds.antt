@@ -1,0 +1,14 @@
+-- The numbers of a statement are below bounds.
+use Rattle.std.specs.Prelude.{ℕ, ◌≤◌, List}
+use Rattle.std.specs.List.{AllByRecursion}
+use Rattle.dbc_reader.specs.declared.statement.Statement.{Statement}
+use Rattle.dbc_reader.specs.declared.statement.Body.{Body}
+use Rattle.dbc_reader.specs.declared.statement.Body.TheVariants.{Message, Skipped}
+
+-- the id of a message has 32 bits, and its length 16
+abbrev pub IsBoundedBody : Body → Type 0
+IsBoundedBody (Message id name len) = (id ≤ 4294967295) × (len ≤ 65535)
+IsBoundedBody Skipped = Unit {0}
+
+abbrev pub AreBounded : List Statement → Type 0
+AreBounded ss = AllByRecursion (λ s. IsBoundedBody s.body) ss
