@@ -5,10 +5,11 @@ use Rattle.std.specs.declared.option.Option.{Option}
 use Rattle.std.specs.declared.option.Option.TheVariants.{None, Some}
 use Rattle.std.specs.FinMap.{get}
 use Rattle.can_model.specs.Refusal.{Refusal}
+use Rattle.can_model.specs.declared.database.Database.{Database}
 use Rattle.cg_out.specs.Outside.{Folder, Rose}
 use Rattle.cli_tool.specs.Command.{Command}
 use Rattle.cli_tool.specs.World.{World}
-use Rattle.cli_tool.specs.HeaderInFile.{header_in}
+use Rattle.cli_tool.specs.HeaderInFile.{database_in}
 use Rattle.cli_tool.specs.Endings.{GenerateEnds, UsageEnds, CommandEnds, Ends, FailsToRead}
 use Rattle.cli_tool.specs.Causes.{AsksFor, CompletesEach, RefusesEach, AnswersEach}
 use Rattle.cli_tool.specs.declared.status.Status.{Status}
@@ -23,11 +24,11 @@ never_absent : (content : Option Folder) (file text : List ℕ) → IsSomeAnd co
 never_absent None file text t h = t
 never_absent (Some folder) file text t h = let e : ◌≡◌ {A = Option (List ℕ)} (Some text) None = sym t ∙ h in absurd cc
 
-never_both : (given : Result (List ℕ) Refusal) (header : List ℕ) (refusal : Refusal) → given ≡ Ok header → given ≡ Err refusal → ⊥
-never_both given header refusal e h = let f : ◌≡◌ {A = Result (List ℕ) Refusal} (Ok header) (Err refusal) = sym e ∙ h in absurd cc
+never_both : (given : Result Database Refusal) (db : Database) (refusal : Refusal) → given ≡ Ok db → given ≡ Err refusal → ⊥
+never_both given db refusal e h = let f : ◌≡◌ {A = Result Database Refusal} (Ok db) (Err refusal) = sym e ∙ h in absurd cc
 
-never_ok : (given : Result (List ℕ) Refusal) (refusal : Refusal) → IsOk given → given ≡ Err refusal → ⊥
-never_ok (Ok header) refusal o e = absurd cc
+never_ok : (given : Result Database Refusal) (refusal : Refusal) → IsOk given → given ≡ Err refusal → ⊥
+never_ok (Ok db) refusal o e = absurd cc
 never_ok (Err r) refusal o e = absurd cc
 
 asked : (words : List (List ℕ)) (old new : World) (status : Status) (file text : List ℕ) → AsksFor words old file text → Ends words old new status → GenerateEnds file old new status
@@ -40,11 +41,11 @@ never_failed old new file text t n f = by_cause f.cause where
   by_cause (inr a) = never_absent old.files.content file text t a
 
 pub completes_each : (words : List (List ℕ)) (old new : World) (status : Status) → Ends words old new status → CompletesEach words old new status
-completes_each words old new status e file text header a h files_stay out_stays = by_status status (asked words old new status file text a e) where
+completes_each words old new status e file text db a h files_stay out_stays = by_status status (asked words old new status file text a e) where
   by_status : (s : Status) → GenerateEnds file old new s → (s ≡ Done) ⊎ (s ≡ NoMemory)
   by_status Done g = inl refl
   by_status NoMemory g = inr refl
-  by_status Refused g = absurd (never_both (header_in file text) header g.0 h (of_text old.files.content file text (λ t. header_in file t ≡ Err g.0) a.text_is g.1.cause))
+  by_status Refused g = absurd (never_both (database_in file text) db g.0 h (of_text old.files.content file text (λ t. database_in file t ≡ Err g.0) a.text_is g.1.cause))
   by_status FileFault (inl f, x) = absurd (never_failed old new file text a.text_is files_stay f)
   by_status FileFault (inr t, x) = absurd (files_stay t.failed)
   by_status OutFault (inl x) = absurd (out_stays x.1.cause)
@@ -55,7 +56,7 @@ completes_each words old new status e file text header a h files_stay out_stays 
 pub refuses_each : (words : List (List ℕ)) (old new : World) (status : Status) → Ends words old new status → RefusesEach words old new status
 refuses_each words old new status e file text refusal a h files_stay = by_status status (asked words old new status file text a e) where
   by_status : (s : Status) → GenerateEnds file old new s → (s ≡ Refused) ⊎ (s ≡ OutFault) ⊎ (s ≡ NoMemory)
-  by_status Done g = absurd (never_ok (header_in file text) refusal (of_text old.files.content file text (λ t. IsOk (header_in file t)) a.text_is g.0.cause) h)
+  by_status Done g = absurd (never_ok (database_in file text) refusal (of_text old.files.content file text (λ t. IsOk (database_in file t)) a.text_is g.0.cause) h)
   by_status NoMemory g = inr (inr refl)
   by_status Refused g = inl refl
   by_status FileFault (inl f, x) = absurd (never_failed old new file text a.text_is files_stay f)

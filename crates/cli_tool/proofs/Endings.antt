@@ -9,28 +9,32 @@ use Rattle.std.proofs.lemmas.List.{take_all}
 use Rattle.can_model.specs.Refusal.{Refusal}
 use Rattle.cg_out.specs.Outside.{Folder, Rose, IfTold, IsTornWrite, Reads}
 use Rattle.cli_tool.specs.World.{FilesSeen, SinkSeen, World, OfText, Calls}
-use Rattle.cli_tool.specs.FileName.{header_path}
-use Rattle.cli_tool.specs.HeaderInFile.{header_in, header_within}
+use Rattle.can_model.specs.declared.database.Database.{Database}
+use Rattle.cli_tool.specs.FileName.{database_name, header_path}
+use Rattle.cli_tool.specs.Header.{header_text}
+use Rattle.cli_tool.specs.HeaderMeaning.{DeclaresConstants, IsHeaderOf}
+use Rattle.cli_tool.proofs.DatabaseMeaning.{database-declares}
+use Rattle.cli_tool.specs.HeaderInFile.{database_within, database_in, header_of_database, header_in}
 use Rattle.cli_tool.specs.Report.{written_report}
 use Rattle.cli_tool.specs.Telling.{Tells, TellsRefusal, PutsHeader, TearsFile, TellsHeader}
-use Rattle.cli_tool.specs.Endings.{GenerateEnds, OfHeader, HasHeader, WritesHeader, TearsHeader, RefusesText, WantsMemory}
+use Rattle.cli_tool.specs.Endings.{GenerateEnds, OfHeader, HasDatabase, WritesHeader, TearsHeader, RefusesText, WantsMemory}
 use Rattle.cli_tool.specs.declared.status.Status.{Status}
 use Rattle.cli_tool.specs.declared.status.Status.TheVariants.{Done, Refused, FileFault, OutFault, NoMemory}
 
 -- one byte more than the limit tells as much as all bytes
-header_within-cut : (limit : ℕ) (file text : List ℕ) → header_within limit file (take (limit + 1) text) ≡ header_within limit file text
-header_within-cut limit file text =
+database_within-cut : (limit : ℕ) (file text : List ℕ) → database_within limit file (take (limit + 1) text) ≡ database_within limit file text
+database_within-cut limit file text =
     elim (cases_lt limit (length text)) [
       | inl lt ↦
           let a : ltb limit (length (take (limit + 1) text)) ≡ true = lt-ltb _ _ (omega (arith, length-take (limit + 1) text)) in
           let b : ltb limit (length text) ≡ true = lt-ltb _ _ lt in
           rw (a, b) refl
-      | inr le ↦ ap (header_within limit file) (take_all (limit + 1) text (omega arith))
+      | inr le ↦ ap (database_within limit file) (take_all (limit + 1) text (omega arith))
     ]
 
-pub header_in-cut : (file text bytes : List ℕ) (given : Result (List ℕ) Refusal) → text ≡ take (8388608 + 1) bytes → header_in file text ≡ given → header_in file bytes ≡ given
-unfolding header_in
-header_in-cut file text bytes given e h = sym (header_within-cut 8388608 file bytes) ∙ ap (header_within 8388608 file) (sym e) ∙ h
+database_in-cut : (file text bytes : List ℕ) (given : Result Database Refusal) → text ≡ take (8388608 + 1) bytes → database_in file text ≡ given → database_in file bytes ≡ given
+unfolding database_in
+database_in-cut file text bytes given e h = sym (database_within-cut 8388608 file bytes) ∙ ap (database_within 8388608 file) (sym e) ∙ h
 
 -- a file that was read: the files as they were and then, and the bytes that came
 pub record Read (file text : List ℕ) (old mid : FilesSeen) : Type 0 where
@@ -58,16 +62,33 @@ OfText-weaker files file P Q f h = by_cases files.content h where
   by_cases None k = k
   by_cases (Some folder) k = IsSomeAnd-weaker (get folder file) P Q f k
 
-read_gives : (file text : List ℕ) (old mid : FilesSeen) (given : Result (List ℕ) Refusal) → Read file text old mid → header_in file text ≡ given → OfText old file (λ bytes. header_in file bytes ≡ given)
+read_gives : (file text : List ℕ) (old mid : FilesSeen) (given : Result Database Refusal) → Read file text old mid → database_in file text ≡ given → OfText old file (λ bytes. database_in file bytes ≡ given)
 read_gives file text old mid given r h =
-    OfText-weaker old file (λ bytes. text ≡ take (8388608 + 1) bytes) (λ bytes. header_in file bytes ≡ given) (λ bytes e. header_in-cut file text bytes given e h) r.text_is
+    OfText-weaker old file (λ bytes. text ≡ take (8388608 + 1) bytes) (λ bytes. database_in file bytes ≡ given) (λ bytes e. database_in-cut file text bytes given e h) r.text_is
+
+-- the database of a header that was made, or the refusal
+pub header_in-Ok : (file : List ℕ) (given : Result Database Refusal) (header : List ℕ) → header_of_database file given ≡ Ok header → (db : Database) × (given ≡ Ok db) × (header ≡ header_text (database_name file) db.messages)
+header_in-Ok file (Ok db) header e = (db, refl, cc)
+header_in-Ok file (Err r) header e = absurd cc
+
+pub header_in-Err : (file : List ℕ) (given : Result Database Refusal) (refusal : Refusal) → header_of_database file given ≡ Err refusal → given ≡ Err refusal
+header_in-Err file (Ok db) refusal e = absurd cc
+header_in-Err file (Err r) refusal e = cc
+
+-- where the text was read, its header is that of the file
+header_of_read : (file text header : List ℕ) (old mid : FilesSeen) → Read file text old mid → header_in file text ≡ Ok header → OfText old file (λ bytes. IsHeaderOf file bytes header)
+header_of_read file text header old mid r h =
+    let d = header_in-Ok file (database_in file text) header h in
+    let meaning = subst (λ (x : List ℕ). DeclaresConstants (database_name file) d.0.messages x) (sym d.2) (database-declares file text d.0 d.1) in
+    OfText-weaker old file (λ bytes. text ≡ take (8388608 + 1) bytes) (λ bytes. IsHeaderOf file bytes header)
+    (λ bytes e. record { db = d.0; database_is = database_in-cut file text bytes (Ok d.0) e d.1; bytes = d.2; meaning = meaning }) r.text_is
 
 -- what the text's header did to the files, when only the time since the read is known
-of_header : (file header : List ℕ) (old mid new : FilesSeen) (P : List ℕ → Folder → Folder → Type 0) → OfText old file (λ bytes. header_in file bytes ≡ Ok header) → mid.content ≡ old.content
+of_header : (file header : List ℕ) (old mid new : FilesSeen) (P : List ℕ → Folder → Folder → Type 0) → OfText old file (λ bytes. IsHeaderOf file bytes header) → mid.content ≡ old.content
     → IfTold mid.content new.content (λ a b. P header a b) → OfHeader file old new P
 of_header file header old mid new P t e h = told old.content new.content t (subst (λ (o : Option Folder). IfTold o new.content (λ a b. P header a b)) e h) where
-  told : (before now : Option Folder) → IfSome before (λ folder. IsSomeAnd (get folder file) (λ bytes. header_in file bytes ≡ Ok header)) → IfTold before now (λ a b. P header a b)
-      → IfTold before now (λ a b. IsSomeAnd (get a file) (λ bytes. (x : List ℕ) × (header_in file bytes ≡ Ok x) × P x a b))
+  told : (before now : Option Folder) → IfSome before (λ folder. IsSomeAnd (get folder file) (λ bytes. IsHeaderOf file bytes header)) → IfTold before now (λ a b. P header a b)
+      → IfTold before now (λ a b. IsSomeAnd (get a file) (λ bytes. (x : List ℕ) × IsHeaderOf file bytes x × P x a b))
   told before None t p = tt
   told None (Some b) t p = p
   told (Some a) (Some b) t p = IsSomeAnd-weaker (get a file) _ _ (λ bytes q. (header, q, p)) t
@@ -82,22 +103,23 @@ Rose-earlier : (a b c : ℕ) → a ≤ b → Rose b c → Rose a c
 Rose-earlier a b c le (inl lt) = inl (omega arith)
 Rose-earlier a b c le (inr e) = inr e
 
-has_header : (file text header : List ℕ) (old mid : FilesSeen) → Read file text old mid → header_in file text ≡ Ok header → HasHeader file old
-has_header file text header old mid r h =
-    OfText-weaker old file (λ bytes. text ≡ take (8388608 + 1) bytes) (λ bytes. IsOk (header_in file bytes)) (λ bytes e. ap is_ok (header_in-cut file text bytes (Ok header) e h)) r.text_is
+has_database : (file text header : List ℕ) (old mid : FilesSeen) → Read file text old mid → header_in file text ≡ Ok header → HasDatabase file old
+has_database file text header old mid r h =
+    let d = header_in-Ok file (database_in file text) header h in
+    OfText-weaker old file (λ bytes. database_in file bytes ≡ Ok d.0) (λ bytes. IsOk (database_in file bytes)) (λ bytes e. ap is_ok e) (read_gives file text old mid (Ok d.0) r d.1)
 
 writes : (file text header : List ℕ) (old mid new : FilesSeen) → Read file text old mid → header_in file text ≡ Ok header → PutsHeader file header mid new → WritesHeader file old new
 writes file text header old mid new r h p = record {
-  cause = has_header file text header old mid r h;
-  content = of_header file header old mid new (λ x a b. b ≡ insert a (header_path file) x) (read_gives file text old mid (Ok header) r h) r.content p.content;
+  cause = has_database file text header old mid r h;
+  content = of_header file header old mid new (λ x a b. b ≡ insert a (header_path file) x) (header_of_read file text header old mid r h) r.content p.content;
   calls = calls_joined old.calls mid.calls new.calls 1 1 r.calls p.calls;
 }
 
 tears : (file text header : List ℕ) (old mid new : FilesSeen) → Read file text old mid → header_in file text ≡ Ok header → TearsFile file header mid new → TearsHeader file old new
 tears file text header old mid new r h p = record {
-  cause = has_header file text header old mid r h;
+  cause = has_database file text header old mid r h;
   failed = Rose-earlier old.faults mid.faults new.faults r.later p.cause;
-  content = of_header file header old mid new (λ x a b. IsTornWrite a b (header_path file) x) (read_gives file text old mid (Ok header) r h) r.content p.content;
+  content = of_header file header old mid new (λ x a b. IsTornWrite a b (header_path file) x) (header_of_read file text header old mid r h) r.content p.content;
   calls = calls_joined old.calls mid.calls new.calls 1 1 r.calls p.calls;
 }
 
@@ -129,7 +151,7 @@ refusal_ends file text refusal files mid out out' status r h t = ends t where
   at s e g = subst (λ (z : Status). GenerateEnds file (record { files = files; out = out }) (record { files = mid; out = out' }) z) (sym e) g
 
   refuses : RefusesText file refusal files mid
-  refuses = record { cause = read_gives file text files mid (Err refusal) r h; content = r.content; calls = r.calls }
+  refuses = record { cause = read_gives file text files mid (Err refusal) r (header_in-Err file (database_in file text) refusal h); content = r.content; calls = r.calls }
 
   ends : TellsRefusal out out' refusal status → GenerateEnds file (record { files = files; out = out }) (record { files = mid; out = out' }) status
   ends (inl x) = at NoMemory x.0 (wants_memory file text files mid mid r refl, x.1)

@@ -3,10 +3,11 @@ use Rattle.std.specs.Prelude.{◌≡◌, ◌⊎◌, ℕ, List, IsSomeAnd, Ok, Er
 use Rattle.std.specs.declared.option.Option.TheVariants.{None, Some}
 use Rattle.std.specs.FinMap.{get}
 use Rattle.can_model.specs.Refusal.{Refusal}
+use Rattle.can_model.specs.declared.database.Database.{Database}
 use Rattle.cg_out.specs.Outside.{Rose}
 use Rattle.cli_tool.specs.Command.{generate_c_source, command_of}
 use Rattle.cli_tool.specs.World.{World}
-use Rattle.cli_tool.specs.HeaderInFile.{header_in}
+use Rattle.cli_tool.specs.HeaderInFile.{database_in}
 use Rattle.cli_tool.specs.declared.status.Status.{Status}
 use Rattle.cli_tool.specs.declared.status.Status.TheVariants.{Done, Usage, Refused, OutFault, NoMemory}
 
@@ -15,16 +16,16 @@ pub record AsksFor (words : List (List ℕ)) (world : World) (file text : List �
   pub command : command_of words ≡ Some (generate_c_source file)
   pub text_is : IsSomeAnd world.files.content (λ folder. get folder file ≡ Some text)
 
--- a text that has a header is done with, but for memory
+-- the header of a text that has a database is written, but for memory
 abbrev pub CompletesEach : List (List ℕ) → World → World → Status → Type 0
 CompletesEach words old new status =
-    (file text header : List ℕ) → AsksFor words old file text → header_in file text ≡ Ok header
+    (file text : List ℕ) (db : Database) → AsksFor words old file text → database_in file text ≡ Ok db
     → ¬ Rose old.files.faults new.files.faults → ¬ Rose old.out.faults new.out.faults → (status ≡ Done) ⊎ (status ≡ NoMemory)
 
 -- a text that is to be refused is refused, but for the sink and memory
 abbrev pub RefusesEach : List (List ℕ) → World → World → Status → Type 0
 RefusesEach words old new status =
-    (file text : List ℕ) (refusal : Refusal) → AsksFor words old file text → header_in file text ≡ Err refusal
+    (file text : List ℕ) (refusal : Refusal) → AsksFor words old file text → database_in file text ≡ Err refusal
     → ¬ Rose old.files.faults new.files.faults → (status ≡ Refused) ⊎ (status ≡ OutFault) ⊎ (status ≡ NoMemory)
 
 -- words that are no command are answered as such, but for the sink

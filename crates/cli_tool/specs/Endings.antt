@@ -8,36 +8,37 @@ use Rattle.cg_out.specs.Outside.{Folder, Rose, IfTold, IsTornWrite}
 use Rattle.cli_tool.specs.Command.{Command, generate_c_source, command_of}
 use Rattle.cli_tool.specs.World.{FilesSeen, World, OfText, Calls, Reports, TearsReport}
 use Rattle.cli_tool.specs.FileName.{header_path}
-use Rattle.cli_tool.specs.HeaderInFile.{header_in}
+use Rattle.cli_tool.specs.HeaderInFile.{database_in}
+use Rattle.cli_tool.specs.HeaderMeaning.{IsHeaderOf}
 use Rattle.cli_tool.specs.Report.{usage_report, written_report, refusal_report}
 use Rattle.cli_tool.specs.declared.status.Status.{Status}
 use Rattle.cli_tool.specs.declared.status.Status.TheVariants.{Done, Negative, Usage, Refused, FileFault, OutFault, NoMemory}
 
--- where the contents are told, the text of the file has a header, and P holds of it and of the contents before and after
+-- where the contents are told, the text of the file has this header, and P holds of it and of the contents before and after
 abbrev pub OfHeader : List ℕ → FilesSeen → FilesSeen → (List ℕ → Folder → Folder → Type 0) → Type 0
 OfHeader file old new P =
-    IfTold old.content new.content (λ a b. IsSomeAnd (get a file) (λ text. (header : List ℕ) × (header_in file text ≡ Ok header) × P header a b))
+    IfTold old.content new.content (λ a b. IsSomeAnd (get a file) (λ text. (header : List ℕ) × IsHeaderOf file text header × P header a b))
 
--- where the contents are told, the file is there, and its text has a header
-abbrev pub HasHeader : List ℕ → FilesSeen → Type 0
-HasHeader file old = OfText old file (λ text. IsOk (header_in file text))
+-- where the contents are told, the file is there, and its text has a database
+abbrev pub HasDatabase : List ℕ → FilesSeen → Type 0
+HasDatabase file old = OfText old file (λ text. IsOk (database_in file text))
 
 -- the header was written, and no other file changed
 pub record WritesHeader (file : List ℕ) (old new : FilesSeen) : Type 0 where
-  pub cause : HasHeader file old
+  pub cause : HasDatabase file old
   pub content : OfHeader file old new (λ header a b. b ≡ insert a (header_path file) header)
   pub calls : Calls old new 2
 
 -- the header could not be written: its file is as it was, or holds the first of the header's bytes, and no other file changed
 pub record TearsHeader (file : List ℕ) (old new : FilesSeen) : Type 0 where
-  pub cause : HasHeader file old
+  pub cause : HasDatabase file old
   pub failed : Rose old.faults new.faults
   pub content : OfHeader file old new (λ header a b. IsTornWrite a b (header_path file) header)
   pub calls : Calls old new 2
 
 -- the text was refused, and no file changed
 pub record RefusesText (file : List ℕ) (refusal : Refusal) (old new : FilesSeen) : Type 0 where
-  pub cause : OfText old file (λ text. header_in file text ≡ Err refusal)
+  pub cause : OfText old file (λ text. database_in file text ≡ Err refusal)
   pub content : new.content ≡ old.content
   pub calls : Calls old new 1
 

@@ -1,4 +1,4 @@
--- What the text of a file gives: the header of its database, or a refusal.
+-- What the text of a file gives: a database with a header, or a refusal.
 use Rattle.std.specs.Prelude.{ℕ, Bool, true, not, ◌&&◌, nat_lt, if◌then◌else◌, List, [], ◌∷◌, map, length, Result, Ok, Err}
 use Rattle.std.specs.List.{list_any}
 use Rattle.std.specs.Str.{bytes_eq}
@@ -42,13 +42,14 @@ database_within limit file text =
     else if is_sym file then Err not_yet
     else database_of_read (statements_of text)
 
+-- the database in a file, by its name and its text
+unfoldable pub database_in : List ℕ → List ℕ → Result Database Refusal
+database_in file text = database_within 8388608 file text
+
 abbrev pub header_of_database : List ℕ → Result Database Refusal → Result (List ℕ) Refusal
 header_of_database file (Ok db) = Ok (header_text (database_name file) db.messages)
 header_of_database file (Err refusal) = Err refusal
 
-abbrev pub header_within : ℕ → List ℕ → List ℕ → Result (List ℕ) Refusal
-header_within limit file text = header_of_database file (database_within limit file text)
-
--- the header of the database in a file
-unfoldable pub header_in : List ℕ → List ℕ → Result (List ℕ) Refusal
-header_in file text = header_within 8388608 file text
+-- the bytes of the header of the database in a file
+abbrev pub header_in : List ℕ → List ℕ → Result (List ℕ) Refusal
+header_in file text = header_of_database file (database_in file text)

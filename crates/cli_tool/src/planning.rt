@@ -25,7 +25,7 @@ pub enum Plan {
 
 /// What is to be done for the text of a file of that name; more bytes than the limit change
 /// nothing.
-#[tactic(auto, unfolding(crate::specs::HeaderInFile::header_in))]
+#[tactic(auto, unfolding(crate::specs::HeaderInFile::database_in))]
 pub fn planned(alloc: Global, file: &[u8], text: &[u8]) -> Result<Plan, Memory>
     ensures { IfOk result (Does (header_in file.now text.now)) }
 {

@@ -1,0 +1,85 @@
+-- A database that is read has small numbers and different identifiers, so its header declares its constants.
+use Rattle.std.proofs.Common.{◌≡◌, ℕ, ◌%◌, ◌^◌, ◌<◌, ◌≤◌, Bool, true, false, cond, ltb, List, [], ◌∷◌, length, map, Result, Ok, Err, refl, sym, ap, subst, ◌∙◌, arith}
+use Rattle.std.specs.declared.option.Option.{Option}
+use Rattle.std.specs.declared.option.Option.TheVariants.{None, Some}
+use Rattle.std.specs.List.{AllByRecursion, filter, filter_map, cons_option}
+use Rattle.can_model.specs.Refusal.{Refusal}
+use Rattle.can_model.specs.declared.database.Message.{Message}
+use Rattle.can_model.specs.declared.database.Database.{Database}
+use Rattle.dbc_reader.specs.declared.statement.Statement.{Statement}
+use Rattle.dbc_reader.specs.declared.statement.Body.{Body}
+use Rattle.dbc_reader.specs.declared.statement.Body.TheVariants as bodies
+use Rattle.dbc_reader.specs.Reading.{statements_of}
+use Rattle.dbc_reader.specs.Bounds.{IsBoundedBody, AreBounded}
+use Rattle.dbc_reader.proofs.Bounded.{statements-bounded}
+use Rattle.dbc_build.specs.DatabaseOfStatements.{message_of, message_from, message_in, is_kept, database_of}
+use Rattle.name_rules.specs.IsIdentifier.{IsIdentifier}
+use Rattle.name_rules.proofs.Shape.{identifier_of-IsIdentifier}
+use Rattle.cli_tool.specs.FileName.{base_name, stem_of, database_name, is_sym}
+use Rattle.cli_tool.specs.Header.{header_text}
+use Rattle.cli_tool.specs.HeaderInFile.{are_distinct, too_large, not_yet, identifiers_of, named_apart, database_of_read, database_within, database_in}
+use Rattle.cli_tool.specs.HeaderMeaning.{DeclaresConstants}
+use Rattle.cli_tool.proofs.HeaderLines.{IsSmallMessage, AreSmall}
+use Rattle.cli_tool.proofs.Meaning.{header-declares}
+
+-- ---- small numbers
+
+small-message : (line : ℕ) (id : ℕ) (name : List ℕ) (len : ℕ) → id ≤ 4294967295 → len ≤ 65535 → IsSmallMessage (message_of line id name len)
+small-message line id name len h k = record { id = omega arith; length = omega arith }
+
+abbrev IfThere : Option Message → Type 0
+IfThere None = Unit {0}
+IfThere (Some m) = IsSmallMessage m
+
+small-from : (line : ℕ) (body : Body) → IsBoundedBody body → IfThere (message_from line body)
+small-from line (bodies.Message id name len) h = small-message line id name len h.0 h.1
+small-from line bodies.Skipped h = tt
+
+small-cons : (o : Option Message) (ms : List Message) → IfThere o → AreSmall ms → AreSmall (cons_option o ms)
+small-cons None ms h k = k
+small-cons (Some m) ms h k = (h, k)
+
+small-messages : (ss : List Statement) → AreBounded ss → AreSmall (filter_map message_in ss)
+small-messages [] h = tt
+small-messages (s ∷ ss) h = small-cons (message_in s) (filter_map message_in ss) (small-from s.line s.body h.0) (small-messages ss h.1)
+
+small-filter : (ms : List Message) → AreSmall ms → AreSmall (filter is_kept ms)
+small-filter [] h = tt
+small-filter (m ∷ ms) h = elim (is_kept m) as (λ b. AreSmall (cond b (m ∷ filter is_kept ms) (filter is_kept ms))) [ true ↦ (h.0, small-filter ms h.1) | false ↦ small-filter ms h.1 ]
+
+-- ---- databases that are read
+
+abbrev IsReadable : Database → Type 0
+IsReadable db = AreSmall db.messages × (are_distinct (identifiers_of db) ≡ true)
+
+readable-named : (made db : Database) → AreSmall made.messages → named_apart made ≡ Ok db → IsReadable db
+readable-named made db h e = by_names (are_distinct (identifiers_of made)) refl e where
+  by_names : (r : Bool) → are_distinct (identifiers_of made) ≡ r → ◌≡◌ {A = Result Database Refusal} (cond r (Ok made) (Err not_yet)) (Ok db) → IsReadable db
+  by_names true d f = let same : made ≡ db = cc in subst IsReadable same (h, d)
+  by_names false d f = absurd cc
+
+readable-read : (read : Result (List Statement) Refusal) (db : Database) → ((ss : List Statement) → read ≡ Ok ss → AreBounded ss) → database_of_read read ≡ Ok db → IsReadable db
+readable-read (Ok ss) db h e = readable-named (database_of ss) db (small-filter (filter_map message_in ss) (small-messages ss (h ss refl))) e
+readable-read (Err r) db h e = absurd cc
+
+readable-within : (limit : ℕ) (file text : List ℕ) (db : Database) → database_within limit file text ≡ Ok db → IsReadable db
+readable-within limit file text db e = by_tests (ltb limit (length text)) (is_sym file) e where
+  by_tests : (a b : Bool) → ◌≡◌ {A = Result Database Refusal} (cond a (Err too_large) (cond b (Err not_yet) (database_of_read (statements_of text)))) (Ok db) → IsReadable db
+  by_tests true b f = absurd cc
+  by_tests false true f = absurd cc
+  by_tests false false f = readable-read (statements_of text) db (λ ss h. statements-bounded text ss h) f
+
+readable-in : (file text : List ℕ) (db : Database) → database_in file text ≡ Ok db → IsReadable db
+unfolding database_in
+readable-in file text db e = readable-within 8388608 file text db e
+
+-- ---- their headers
+
+pub named-identifier : (file : List ℕ) → IsIdentifier (database_name file)
+unfolding database_name
+named-identifier file = identifier_of-IsIdentifier (stem_of (base_name file))
+
+pub database-declares : (file text : List ℕ) (db : Database) → database_in file text ≡ Ok db → DeclaresConstants (database_name file) db.messages (header_text (database_name file) db.messages)
+database-declares file text db e =
+    let r = readable-in file text db e in
+    header-declares (database_name file) db.messages (named-identifier file) r.0 r.1
