@@ -13,14 +13,15 @@ use Rattle.dbc_reader.specs.Reading.{statements_of}
 use Rattle.dbc_reader.specs.Bounds.{IsBoundedBody, AreBounded}
 use Rattle.dbc_reader.proofs.Bounded.{statements-bounded}
 use Rattle.dbc_build.specs.DatabaseOfStatements.{message_of, message_from, message_in, is_kept, database_of}
+use Rattle.name_rules.specs.Distinct.{are_distinct}
 use Rattle.name_rules.specs.IsIdentifier.{IsIdentifier}
 use Rattle.name_rules.proofs.Shape.{identifier_of-IsIdentifier}
 use Rattle.cli_tool.specs.FileName.{base_name, stem_of, database_name, is_sym}
-use Rattle.cli_tool.specs.Header.{header_text}
-use Rattle.cli_tool.specs.HeaderInFile.{are_distinct, too_large, not_yet, identifiers_of, named_apart, database_of_read, database_within, database_in}
-use Rattle.cli_tool.specs.HeaderMeaning.{DeclaresConstants}
-use Rattle.cli_tool.proofs.HeaderLines.{IsSmallMessage, AreSmall}
-use Rattle.cli_tool.proofs.Meaning.{header-declares}
+use Rattle.gen_unit.specs.Header.{header_text}
+use Rattle.cli_tool.specs.HeaderInFile.{too_large, not_yet, identifiers_of, named_apart, database_of_read, database_within, database_in}
+use Rattle.gen_unit.specs.HeaderMeaning.{DeclaresConstants}
+use Rattle.gen_unit.specs.Small.{IsSmallMessage, AreSmall}
+use Rattle.gen_unit.proofs.Meaning.{header-declares}
 
 -- ---- small numbers
 

@@ -11,8 +11,9 @@ use Rattle.cg_out.specs.Outside.{Folder, Rose, IfTold, IsTornWrite, Reads}
 use Rattle.cli_tool.specs.World.{FilesSeen, SinkSeen, World, OfText, Calls}
 use Rattle.can_model.specs.declared.database.Database.{Database}
 use Rattle.cli_tool.specs.FileName.{database_name, header_path}
-use Rattle.cli_tool.specs.Header.{header_text}
-use Rattle.cli_tool.specs.HeaderMeaning.{DeclaresConstants, IsHeaderOf}
+use Rattle.gen_unit.specs.Header.{header_text}
+use Rattle.gen_unit.specs.HeaderMeaning.{DeclaresConstants}
+use Rattle.cli_tool.specs.HeaderOfFile.{IsHeaderOf}
 use Rattle.cli_tool.proofs.DatabaseMeaning.{database-declares}
 use Rattle.cli_tool.specs.HeaderInFile.{database_within, database_in, header_of_database, header_in}
 use Rattle.cli_tool.specs.Report.{written_report}

@@ -11,7 +11,7 @@ use Rattle.std.specs.BTreeSet.{BTreeSet, contains, Updates}
 use Rattle.std.proofs.lemmas.List.{drop-map}
 use Rattle.std.proofs.lemmas.Map.Text.{is_eq-slice_cmp}
 use Rattle.std.proofs.lemmas.Slice.Eq.{bytes_eq-Decides}
-use Rattle.cli_tool.specs.HeaderInFile.{are_distinct}
+use Rattle.name_rules.specs.Distinct.{are_distinct}
 
 abbrev pub by_bytes : Vec ℕ → Vec ℕ → Ordering
 by_bytes x y = slice_cmp nat_cmp x.items y.items

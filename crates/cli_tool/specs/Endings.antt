@@ -9,7 +9,7 @@ use Rattle.cli_tool.specs.Command.{Command, generate_c_source, command_of}
 use Rattle.cli_tool.specs.World.{FilesSeen, World, OfText, Calls, Reports, TearsReport}
 use Rattle.cli_tool.specs.FileName.{header_path}
 use Rattle.cli_tool.specs.HeaderInFile.{database_in}
-use Rattle.cli_tool.specs.HeaderMeaning.{IsHeaderOf}
+use Rattle.cli_tool.specs.HeaderOfFile.{IsHeaderOf}
 use Rattle.cli_tool.specs.Report.{usage_report, written_report, refusal_report}
 use Rattle.cli_tool.specs.declared.status.Status.{Status}
 use Rattle.cli_tool.specs.declared.status.Status.TheVariants.{Done, Negative, Usage, Refused, FileFault, OutFault, NoMemory}

@@ -1,7 +1,5 @@
 -- What the text of a file gives: a database with a header, or a refusal.
 use Rattle.std.specs.Prelude.{ℕ, Bool, true, not, ◌&&◌, nat_lt, if◌then◌else◌, List, [], ◌∷◌, map, length, Result, Ok, Err}
-use Rattle.std.specs.List.{list_any}
-use Rattle.std.specs.Str.{bytes_eq}
 use Rattle.can_model.specs.declared.database.Database.{Database}
 use Rattle.can_model.specs.declared.refusal.TextKind.TheVariants.{TooLarge, NotYet}
 use Rattle.can_model.specs.Refusal.{Refusal}
@@ -9,13 +7,9 @@ use Rattle.dbc_reader.specs.declared.statement.Statement.{Statement}
 use Rattle.dbc_reader.specs.Reading.{statements_of}
 use Rattle.dbc_build.specs.DatabaseOfStatements.{database_of}
 use Rattle.name_rules.specs.Identifier.{identifier_of}
+use Rattle.name_rules.specs.Distinct.{are_distinct}
 use Rattle.cli_tool.specs.FileName.{database_name, is_sym}
-use Rattle.cli_tool.specs.Header.{header_text}
-
--- no two are equal
-abbrev pub are_distinct : List (List ℕ) → Bool
-are_distinct [] = true
-are_distinct (x ∷ xs) = not (list_any (bytes_eq x) xs) && are_distinct xs
+use Rattle.gen_unit.specs.Header.{header_text}
 
 -- a text that is longer than a database's may be, and what is not read in this version
 abbrev pub too_large : Refusal

@@ -1,13 +1,11 @@
-pub mod Parts
-pub mod Header
 pub mod FileName
 pub mod Command
 pub mod World
 pub mod Report
 pub mod Status
 pub mod HeaderInFile
+pub mod HeaderOfFile
 pub mod Plan
 pub mod Endings
 pub mod Causes
 pub mod Telling
-pub mod HeaderMeaning

@@ -7,9 +7,7 @@
 #![tactic(auto)]
 
 mod naming;
-mod parts;
 mod planning;
-mod printing;
 mod reporting;
 mod running;
 mod status;

@@ -1,15 +1,16 @@
 //! What is to be done for the text of a file.
 ghost use Rattle.std.specs.Prelude.{◌≡◌, map, IfOk};
-ghost use Rattle.cli_tool.specs.HeaderInFile.{are_distinct, header_in};
+ghost use Rattle.cli_tool.specs.HeaderInFile.{header_in};
+ghost use Rattle.name_rules.specs.Distinct.{are_distinct};
 ghost use Rattle.name_rules.specs.Identifier.{identifier_of};
 ghost use Rattle.cli_tool.specs.Plan.{Does};
 
 use crate::naming::{name, names_sym};
-use crate::printing::header;
 use can_model::{Message, TEXT_LIMIT, TextFault, TextKind};
 use cg_out::Memory;
 use dbc_build::database;
 use dbc_reader::statements;
+use gen_unit::header;
 use name_rules::identifier;
 use std::alloc::Global;
 use std::collections::BTreeSet;

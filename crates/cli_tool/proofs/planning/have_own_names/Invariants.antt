@@ -5,7 +5,7 @@ use Rattle.std.specs.Global.{Vec}
 use Rattle.std.specs.Prelude.{ℕ}
 use Rattle.std.specs.BTreeSet.{contains}
 use Rattle.name_rules.specs.Identifier.{identifier_of}
-use Rattle.cli_tool.specs.HeaderInFile.{are_distinct}
+use Rattle.name_rules.specs.Distinct.{are_distinct}
 use Rattle.cli_tool.proofs.OwnNames.{by_bytes}
 use Rattle.cli_tool.proofs.planning.have_own_names.Given as goal
 

@@ -2,15 +2,12 @@
 use Rattle.std.specs.Prelude.{◌≡◌, ℕ, Bool, true, false, if◌then◌else◌, List, [], ◌∷◌, ◌++◌, map, codes, Result, Ok}
 use Rattle.std.specs.List.{flat_map}
 use Rattle.can_model.specs.declared.database.Message.{Message}
-use Rattle.can_model.specs.declared.database.Database.{Database}
 use Rattle.c_mean.specs.declared.token.TokenKind.{TokenKind}
 use Rattle.c_mean.specs.declared.token.TokenKind.TheVariants.{Constant as Number, Mark}
 use Rattle.c_mean.specs.declared.preprocessed.Preprocessed.{Preprocessed}
 use Rattle.c_mean.specs.Preprocessing.{preprocessed_texts}
 use Rattle.c_mean.specs.BarePreprocessing.{macro_kinds}
-use Rattle.cli_tool.specs.FileName.{database_name}
-use Rattle.cli_tool.specs.Header.{guard_of, prefix_of, header_text}
-use Rattle.cli_tool.specs.HeaderInFile.{database_in}
+use Rattle.gen_unit.specs.Header.{guard_of, prefix_of}
 
 -- a macro's name and the kinds of its body's tokens
 abbrev pub Macro : Type 0
@@ -51,10 +48,3 @@ pub record DeclaresConstants (name : List ℕ) (messages : List Message) (header
   pub no_fault : preprocessed_texts header (header_name name) (including name) ≡ Ok left
   pub no_tokens : left.tokens ≡ []
   pub macros : map macro_kinds left.macros ≡ macros_of name messages
-
--- the header of the database in a file: its bytes, and what they say as C
-pub record IsHeaderOf (file text header : List ℕ) : Type 0 where
-  pub db : Database
-  pub database_is : database_in file text ≡ Ok db
-  pub bytes : header ≡ header_text (database_name file) db.messages
-  pub meaning : DeclaresConstants (database_name file) db.messages header

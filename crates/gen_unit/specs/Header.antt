@@ -4,8 +4,8 @@ use Rattle.std.specs.List.{flat_map}
 use Rattle.std.specs.Char.{to_ascii_uppercase}
 use Rattle.can_model.specs.declared.database.Message.{Message}
 use Rattle.name_rules.specs.Identifier.{identifier_of}
-use Rattle.cli_tool.specs.Parts.{Part, comment, blank, include, if_not_defined, define, end_if, text_of}
-use Rattle.cli_tool.specs.declared.parts.MacroBody.TheVariants.{Empty, Plain, Hexadecimal, Unsigned, Flag}
+use Rattle.gen_unit.specs.Parts.{Part, comment, blank, include, if_not_defined, define, end_if, text_of}
+use Rattle.gen_unit.specs.declared.parts.MacroBody.TheVariants.{Empty, Plain, Hexadecimal, Unsigned, Flag}
 
 -- the words that stand in every header
 unfoldable pub opening_text : List ℕ

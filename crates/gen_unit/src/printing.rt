@@ -1,8 +1,13 @@
 //! The header's text.
-ghost use Rattle.std.specs.Prelude.{◌≡◌, ◌++◌, ◌∷◌, [], IfOk, OnOk};
+ghost use Rattle.std.specs.Prelude.{◌≡◌, ◌++◌, ◌∷◌, [], true, map, IfOk, OnOk};
 ghost use Rattle.std.specs.List.{flat_map};
-ghost use Rattle.cli_tool.specs.Parts.{text_of, comment_line, define_line};
-ghost use Rattle.cli_tool.specs.Header.{upper, guard_of, prefix_of, about, message_parts, opening_text, error_name, opening_parts, include_parts, error_parts, header_text};
+ghost use Rattle.name_rules.specs.Identifier.{identifier_of};
+ghost use Rattle.name_rules.specs.IsIdentifier.{IsIdentifier};
+ghost use Rattle.name_rules.specs.Distinct.{are_distinct};
+ghost use Rattle.gen_unit.specs.Small.{AreSmall};
+ghost use Rattle.gen_unit.specs.HeaderMeaning.{DeclaresConstants};
+ghost use Rattle.gen_unit.specs.Parts.{text_of, comment_line, define_line};
+ghost use Rattle.gen_unit.specs.Header.{upper, guard_of, prefix_of, about, message_parts, opening_text, error_name, opening_parts, include_parts, error_parts, header_text};
 
 use crate::parts::{
     MacroBody, put_blank, put_comment, put_define, put_end_if, put_if_not_defined, put_include,
@@ -12,8 +17,20 @@ use cg_out::Memory;
 use name_rules::identifier;
 use std::alloc::{AllocError, Global};
 
-/// The header of these messages in the database of that name.
+/// The header of these messages in the database of that name, an identifier: three macros for each
+/// message behind an include guard.
 pub fn header(alloc: Global, name: &[u8], messages: &[Message]) -> Result<Vec<u8>, Memory>
+    ensures bytes { IfOk result (λ v. v.items ≡ header_text name.now messages.now) }
+
+    // What the bytes say as C, where no two messages have the same identifier.
+    ensures meaning { IsIdentifier name.now → AreSmall messages.now
+        → are_distinct (map (λ m. identifier_of m.name) messages.now) ≡ true
+        → IfOk result (λ v. DeclaresConstants name.now messages.now v.items) }
+{
+    text(alloc, name, messages)
+}
+
+fn text(alloc: Global, name: &[u8], messages: &[Message]) -> Result<Vec<u8>, Memory>
     ensures { IfOk result (λ v. v.items ≡ header_text name.now messages.now) }
 {
     let mut out = Vec::new(alloc);

@@ -20,11 +20,12 @@ use Rattle.c_mean.proofs.Constants.{constant}
 use Rattle.c_mean.proofs.HeaderLines.{apart}
 use Rattle.c_mean.proofs.Defines.{defines}
 use Rattle.c_mean.proofs.GuardedHeader.{guarded_header}
-use Rattle.cli_tool.specs.Parts.{end_if}
-use Rattle.cli_tool.specs.Header.{error_name, opening_text, upper, guard_of, prefix_of, about, message_parts, opening_parts, include_parts, error_parts, header_parts}
-use Rattle.cli_tool.specs.declared.parts.MacroBody.{MacroBody}
-use Rattle.cli_tool.specs.declared.parts.MacroBody.TheVariants.{Empty, Plain, Hexadecimal, Unsigned, Flag}
-use Rattle.cli_tool.proofs.PartLines.{BareLine, body_tokens, SayAll, say-append}
+use Rattle.gen_unit.specs.Parts.{end_if}
+use Rattle.gen_unit.specs.Header.{error_name, opening_text, upper, guard_of, prefix_of, about, message_parts, opening_parts, include_parts, error_parts, header_parts}
+use Rattle.gen_unit.specs.Small.{IsSmallMessage, AreSmall}
+use Rattle.gen_unit.specs.declared.parts.MacroBody.{MacroBody}
+use Rattle.gen_unit.specs.declared.parts.MacroBody.TheVariants.{Empty, Plain, Hexadecimal, Unsigned, Flag}
+use Rattle.gen_unit.proofs.PartLines.{BareLine, body_tokens, SayAll, say-append}
 
 -- ---- names
 
@@ -68,14 +69,6 @@ name-macro name suffix m h p =
 
 -- ---- what each message says
 
--- its numbers are constants of C
-pub record IsSmallMessage (m : Message) : Type 0 where
-  pub id : m.id < 2 ^ 64
-  pub length : m.length < 2 ^ 64
-
-abbrev pub AreSmall : List Message → Type 0
-AreSmall ms = AllByRecursion IsSmallMessage ms
-
 abbrev pub message_macros : List ℕ → Message → List (Named (Unit {0}))
 message_macros name m =
     (prefix_of name m ++ codes "_FRAME_ID", body_tokens (Hexadecimal m.id))
@@ -88,12 +81,31 @@ say-message name m h s =
     let d : List ℕ → MacroBody → BareLine = λ n body. define tt n (body_tokens body) in
     let a = d (prefix_of name m ++ codes "_FRAME_ID") (Hexadecimal m.id) in
     let b = d (prefix_of name m ++ codes "_LENGTH") (Unsigned m.length) in
-    let c = d (prefix_of name m ++ codes "_IS_EXTENDED") (Flag m.extended) in
-    ([], a ∷ b ∷ c ∷ [], refl,
-      (a ∷ [], b ∷ c ∷ [], (name-macro name (codes "_FRAME_ID") m h (pass-all goes_on (codes "_FRAME_ID") refl), s.id, refl),
-        (b ∷ [], c ∷ [], (name-macro name (codes "_LENGTH") m h (pass-all goes_on (codes "_LENGTH") refl), s.length, refl),
-          (c ∷ [], [], (name-macro name (codes "_IS_EXTENDED") m h (pass-all goes_on (codes "_IS_EXTENDED") refl), tt, refl),
-            ([], [], refl, refl, refl), refl), refl), refl), refl)
+    let c = d (prefix_of name m ++ codes "_IS_EXTENDED") (Flag m.extended) in (
+      [],
+      a ∷ b ∷ c ∷ [],
+      refl,
+      (
+        a ∷ [],
+        b ∷ c ∷ [],
+        (name-macro name (codes "_FRAME_ID") m h (pass-all goes_on (codes "_FRAME_ID") refl), s.id, refl),
+        (
+          b ∷ [],
+          c ∷ [],
+          (name-macro name (codes "_LENGTH") m h (pass-all goes_on (codes "_LENGTH") refl), s.length, refl),
+          (
+            c ∷ [],
+            [],
+            (name-macro name (codes "_IS_EXTENDED") m h (pass-all goes_on (codes "_IS_EXTENDED") refl), tt, refl),
+            ([], [], refl, refl, refl),
+            refl,
+          ),
+          refl,
+        ),
+        refl,
+      ),
+      refl,
+    )
 
 abbrev pub all_macros : List ℕ → List Message → List (Named (Unit {0}))
 all_macros name ms = flat_map (message_macros name) ms
@@ -113,22 +125,55 @@ error_body = body_tokens (Plain 22)
 say-opening : (g : List ℕ) → IsName g → SayAll (opening_parts g) (conditional tt false g ∷ define tt g [] ∷ [])
 say-opening g h =
     let a : BareLine = conditional tt false g in
-    let b : BareLine = define tt g [] in
-    ([], a ∷ b ∷ [], refl,
-      ([], a ∷ b ∷ [], refl,
-        (a ∷ [], b ∷ [], (h, refl),
-          (b ∷ [], [], (h, tt, refl),
-            ([], [], refl, refl, refl), refl), refl), refl), refl)
+    let b : BareLine = define tt g [] in (
+      [],
+      a ∷ b ∷ [],
+      refl,
+      (
+        [],
+        a ∷ b ∷ [],
+        refl,
+        (
+          a ∷ [],
+          b ∷ [],
+          (h, refl),
+          (
+            b ∷ [],
+            [],
+            (h, tt, refl),
+            ([], [], refl, refl, refl),
+            refl,
+          ),
+          refl,
+        ),
+        refl,
+      ),
+      refl,
+    )
 
 say-includes : SayAll include_parts (standard stdbool_h ∷ standard stddef_h ∷ standard stdint_h ∷ [])
 say-includes =
     let a : BareLine = standard stdbool_h in
     let b : BareLine = standard stddef_h in
-    let c : BareLine = standard stdint_h in
-    (a ∷ [], b ∷ c ∷ [], inl (refl, refl),
-      (b ∷ [], c ∷ [], inr (inl (refl, refl)),
-        (c ∷ [], [], inr (inr (refl, refl)),
-          ([], [], refl, refl, refl), refl), refl), refl)
+    let c : BareLine = standard stdint_h in (
+      a ∷ [],
+      b ∷ c ∷ [],
+      inl (refl, refl),
+      (
+        b ∷ [],
+        c ∷ [],
+        inr (inl (refl, refl)),
+        (
+          c ∷ [],
+          [],
+          inr (inr (refl, refl)),
+          ([], [], refl, refl, refl),
+          refl,
+        ),
+        refl,
+      ),
+      refl,
+    )
 
 say-error : SayAll error_parts (conditional tt false (codes "EINVAL") ∷ define tt (codes "EINVAL") error_body ∷ endif tt ∷ [])
 unfolding error_name
@@ -136,11 +181,25 @@ say-error =
     let a : BareLine = conditional tt false (codes "EINVAL") in
     let b : BareLine = define tt (codes "EINVAL") error_body in
     let c : BareLine = endif tt in
-    let h : IsName (codes "EINVAL") = (refl, pass-all goes_on (codes "INVAL") refl) in
-    (a ∷ [], b ∷ c ∷ [], (h, refl),
-      (b ∷ [], c ∷ [], (h, omega arith, refl),
-        (c ∷ [], [], refl,
-          ([], [], refl, refl, refl), refl), refl), refl)
+    let h : IsName (codes "EINVAL") = (refl, pass-all goes_on (codes "INVAL") refl) in (
+      a ∷ [],
+      b ∷ c ∷ [],
+      (h, refl),
+      (
+        b ∷ [],
+        c ∷ [],
+        (h, omega arith, refl),
+        (
+          c ∷ [],
+          [],
+          refl,
+          ([], [], refl, refl, refl),
+          refl,
+        ),
+        refl,
+      ),
+      refl,
+    )
 
 pub say-header : (name : List ℕ) (ms : List Message) → IsIdentifier name → AreSmall ms → SayAll (header_parts name ms) (guarded_header (guard_of name) error_body (all_macros name ms))
 say-header name ms h s =
@@ -151,8 +210,8 @@ say-header name ms h s =
     let macros = defines tt (all_macros name ms) in
     say-append (opening_parts g ++ include_parts ++ error_parts ++ flat_map (message_parts name) ms) (end_if ∷ []) (opening ++ includes ++ error ++ macros) (endif tt ∷ [])
     (say-append (opening_parts g ++ include_parts ++ error_parts) (flat_map (message_parts name) ms) (opening ++ includes ++ error) macros
-      (say-append (opening_parts g ++ include_parts) error_parts (opening ++ includes) error
-        (say-append (opening_parts g) include_parts opening includes (say-opening g (name-guard name h)) say-includes)
-        say-error)
-      (say-messages name ms h s))
+    (say-append (opening_parts g ++ include_parts) error_parts (opening ++ includes) error
+    (say-append (opening_parts g) include_parts opening includes (say-opening g (name-guard name h)) say-includes)
+    say-error)
+    (say-messages name ms h s))
     (endif tt ∷ [], [], refl, refl, refl)

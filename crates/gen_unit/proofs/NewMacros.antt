@@ -18,10 +18,10 @@ use Rattle.c_mean.specs.MacroDefinition.{is_macro}
 use Rattle.c_mean.specs.Preprocessing.{Named}
 use Rattle.c_mean.proofs.Defines.{AreNew, is_macro-append, is_macro-define}
 use Rattle.c_mean.proofs.GuardedHeader.{guarded_front}
-use Rattle.cli_tool.specs.Header.{upper, guard_of, prefix_of}
-use Rattle.cli_tool.specs.HeaderInFile.{are_distinct}
-use Rattle.cli_tool.proofs.PartLines.{BareLine}
-use Rattle.cli_tool.proofs.HeaderLines.{message_macros, all_macros, error_body, identifier-bytes}
+use Rattle.gen_unit.specs.Header.{upper, guard_of, prefix_of}
+use Rattle.name_rules.specs.Distinct.{are_distinct}
+use Rattle.gen_unit.proofs.PartLines.{BareLine}
+use Rattle.gen_unit.proofs.HeaderLines.{message_macros, all_macros, error_body, identifier-bytes}
 
 -- ---- texts that differ
 
@@ -133,9 +133,14 @@ macros-distinct name (m ∷ ms) h =
     let id = identifier_of m.name in
     let p = both_true (list_any (bytes_eq id) (ids ms)) (are_distinct (ids ms)) h in
     let x = prefix_of name m in
-    rw (frame-size x x, frame-extended x x, others name (x ++ frame) id (each-frame name m) ms p.0,
-      size-extended x x, others name (x ++ size) id (each-size name m) ms p.0,
-      others name (x ++ extended) id (each-extended name m) ms p.0) (macros-distinct name ms p.1)
+    rw (
+      frame-size x x,
+      frame-extended x x,
+      others name (x ++ frame) id (each-frame name m) ms p.0,
+      size-extended x x,
+      others name (x ++ size) id (each-size name m) ms p.0,
+      others name (x ++ extended) id (each-extended name m) ms p.0,
+    ) (macros-distinct name ms p.1)
 
 -- ---- none of them is a macro before its line
 
@@ -167,11 +172,16 @@ message-none : (name : List ℕ) (ms : List Message) → AreNone (guarded_front 
 message-none name [] = tt
 message-none name (m ∷ ms) =
     let x = prefix_of name m in
-    let g = guard_of name in
-    (front-none g (x ++ frame) (ends_apart (upper name) [] x (codes "_FRAME_") 95 72 73 68 refl) (ends_apart (codes "EINV") [] x (codes "_FRAME_") 65 76 73 68 refl),
-      (front-none g (x ++ size) (ends_apart (upper name) [] x (codes "_LENG") 95 72 84 72 refl) (ends_apart (codes "EINV") [] x (codes "_LENG") 65 76 84 72 refl),
-        (front-none g (x ++ extended) (ends_apart (upper name) [] x (codes "_IS_EXTEND") 95 72 69 68 refl) (ends_apart (codes "EINV") [] x (codes "_IS_EXTEND") 65 76 69 68 refl),
-          message-none name ms)))
+    let g = guard_of name in (
+      front-none g (x ++ frame) (ends_apart (upper name) [] x (codes "_FRAME_") 95 72 73 68 refl) (ends_apart (codes "EINV") [] x (codes "_FRAME_") 65 76 73 68 refl),
+      (
+        front-none g (x ++ size) (ends_apart (upper name) [] x (codes "_LENG") 95 72 84 72 refl) (ends_apart (codes "EINV") [] x (codes "_LENG") 65 76 84 72 refl),
+        (
+          front-none g (x ++ extended) (ends_apart (upper name) [] x (codes "_IS_EXTEND") 95 72 69 68 refl) (ends_apart (codes "EINV") [] x (codes "_IS_EXTEND") 65 76 69 68 refl),
+          message-none name ms,
+        ),
+      ),
+    )
 
 pub macros-new : (name : List ℕ) (ms : List Message) → are_distinct (ids ms) ≡ true → AreNew tt (guarded_front (guard_of name) error_body) (all_macros name ms)
 macros-new name ms h = new-from (guarded_front (guard_of name) error_body) (all_macros name ms) (message-none name ms) (macros-distinct name ms h)

@@ -1,6 +1,6 @@
 //! The lines of a C header, each a part of its own.
 ghost use Rattle.std.specs.Prelude.{◌≡◌, ◌++◌, ◌∷◌, [], map, IfOk, OnOk, string_bytes};
-ghost use Rattle.cli_tool.specs.Parts.{shown_byte, body_text, comment_line, include_line, if_not_defined_line, define_line, end_if_line};
+ghost use Rattle.gen_unit.specs.Parts.{shown_byte, body_text, comment_line, include_line, if_not_defined_line, define_line, end_if_line};
 
 use std::alloc::{AllocError, Global};
 

@@ -17,9 +17,9 @@ use Rattle.c_mean.proofs.Boundary.{is_no_star}
 use Rattle.c_mean.proofs.Constants.{constant, no-suffix, u-suffix}
 use Rattle.c_mean.proofs.HeaderLines.{apart, bracketed, IsNumber, decimal-number, hexadecimal-number, blank-line, comment-line, endif-line, ifndef-line, define_empty-line, define_number-line, define_bracketed-line, stdbool-line, stddef-line, stdint-line}
 use Rattle.c_mean.proofs.TextLines.{AreLines, no-lines, more-lines}
-use Rattle.cli_tool.specs.Parts.{Part, comment, blank, include, if_not_defined, define as define_part, end_if, shown_byte, body_text, comment_line, include_line, if_not_defined_line, define_line, end_if_line, part_text, text_of}
-use Rattle.cli_tool.specs.declared.parts.MacroBody.{MacroBody}
-use Rattle.cli_tool.specs.declared.parts.MacroBody.TheVariants.{Empty, Plain, Hexadecimal, Unsigned, Flag}
+use Rattle.gen_unit.specs.Parts.{Part, comment, blank, include, if_not_defined, define as define_part, end_if, shown_byte, body_text, comment_line, include_line, if_not_defined_line, define_line, end_if_line, part_text, text_of}
+use Rattle.gen_unit.specs.declared.parts.MacroBody.{MacroBody}
+use Rattle.gen_unit.specs.declared.parts.MacroBody.TheVariants.{Empty, Plain, Hexadecimal, Unsigned, Flag}
 
 abbrev pub BareLine : Type 0
 BareLine = Line (Unit {0})

@@ -22,12 +22,13 @@ use Rattle.c_mean.proofs.PrintedLines.{bytes-in_string, bytes-plain}
 use Rattle.c_mean.proofs.HeaderLines.{quoted-line}
 use Rattle.c_mean.proofs.TextLines.{AreLines, texts-lines}
 use Rattle.c_mean.proofs.GuardedHeader.{guarded_header, guarded-left}
-use Rattle.cli_tool.specs.Header.{guard_of, prefix_of, header_parts, header_text}
-use Rattle.cli_tool.specs.HeaderInFile.{are_distinct}
-use Rattle.cli_tool.specs.HeaderMeaning.{Macro, number, constants_of, macros_of, header_name, including, DeclaresConstants}
-use Rattle.cli_tool.proofs.PartLines.{BareLine, parts-lines}
-use Rattle.cli_tool.proofs.HeaderLines.{AreSmall, message_macros, all_macros, error_body, say-header, identifier-bytes}
-use Rattle.cli_tool.proofs.NewMacros.{ids, guard-error, macros-new}
+use Rattle.gen_unit.specs.Header.{guard_of, prefix_of, header_parts, header_text}
+use Rattle.name_rules.specs.Distinct.{are_distinct}
+use Rattle.gen_unit.specs.HeaderMeaning.{Macro, number, constants_of, macros_of, header_name, including, DeclaresConstants}
+use Rattle.gen_unit.specs.Small.{AreSmall}
+use Rattle.gen_unit.proofs.PartLines.{BareLine, parts-lines}
+use Rattle.gen_unit.proofs.HeaderLines.{message_macros, all_macros, error_body, say-header, identifier-bytes}
+use Rattle.gen_unit.proofs.NewMacros.{ids, guard-error, macros-new}
 
 -- ---- the source
 

@@ -2,8 +2,8 @@
 use Rattle.std.specs.Prelude.{ℕ, false, ◌||◌, ◌==◌, nat_lt, if◌then◌else◌, List, [], ◌∷◌, ◌++◌, map, codes}
 use Rattle.std.specs.List.{flat_map}
 use Rattle.std.specs.Fmt.{decimal, digits}
-use Rattle.cli_tool.specs.declared.parts.MacroBody.{MacroBody}
-use Rattle.cli_tool.specs.declared.parts.MacroBody.TheVariants.{Empty, Plain, Hexadecimal, Unsigned, Flag}
+use Rattle.gen_unit.specs.declared.parts.MacroBody.{MacroBody}
+use Rattle.gen_unit.specs.declared.parts.MacroBody.TheVariants.{Empty, Plain, Hexadecimal, Unsigned, Flag}
 
 pub data Part : Type 0 where
   comment : (text : List ℕ) → Part

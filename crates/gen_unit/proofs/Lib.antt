@@ -1,0 +1,4 @@
+pub mod PartLines
+pub mod HeaderLines
+pub mod NewMacros
+pub mod Meaning

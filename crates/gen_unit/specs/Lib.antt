@@ -1,0 +1,4 @@
+pub mod Parts
+pub mod Header
+pub mod HeaderMeaning
+pub mod Small
