@@ -1,5 +1,5 @@
 -- Limits depend on the numbers alone, not on how they are written: all are compared in one unit below them.
-use Rattle.std.proofs.Common.{◌≡◌, ℕ, zero, suc, ◌+◌, ◌*◌, ◌^◌, ◌<◌, ◌≤◌, ◌↔◌, ⊎_elim, ℤ, pos, negsuc, neg_ℤ, ◌+ℤ◌, ◌-ℤ◌, ◌*ℤ◌, ◌≤ℤ◌, Option, Some, None, refl, sym, ap, ◌∙◌, subst, arith}
+use Rattle.std.proofs.Common.{◌≡◌, ℕ, suc, ◌+◌, ◌*◌, ◌^◌, ◌<◌, ◌≤◌, ◌↔◌, ⊎_elim, ℤ, pos, negsuc, neg_ℤ, ◌+ℤ◌, ◌-ℤ◌, ◌*ℤ◌, ◌≤ℤ◌, Option, Some, None, sym, ap, ◌∙◌, subst, arith}
 use Rattle.std.specs.Int.{int_min}
 use Rattle.std.proofs.lemmas.Int.{ints, clamps}
 use Rattle.std.proofs.lemmas.Bool.{cases_lt}
@@ -8,7 +8,7 @@ use Rattle.std.proofs.lemmas.Nat.{pow-add, mul-le}
 use Rattle.std.proofs.Math.Nat.{mul_assoc}
 use Rattle.std.proofs.Math.IntN.{neg_ℤ-neg_ℤ}
 use Rattle.limit_fraction.specs.declared.number.Decimal.{Decimal}
-use Rattle.limit_fraction.specs.Number.{Number, natural, in_unit, common_unit, units, times, plus, IsSame, IsAtMost}
+use Rattle.limit_fraction.specs.Number.{Number, natural, in_unit, common_unit, times, plus, IsSame, IsAtMost}
 use Rattle.limit_fraction.specs.Decimal.{number_of}
 use Rattle.limit_fraction.specs.Limits.{physical, MeetsMinimum, MeetsMaximum, MeetsLimits}
 use Rattle.limit_fraction.proofs.Tens.{tens_pos}

@@ -21,7 +21,7 @@ pub struct Decimal {
 #[error("this is not a number")]
 pub struct NumberFault;
 
-/// The greatest whole number that is given, and in size the least.
+/// The greatest size of a whole number that is answered.
 const WHOLE: u128 = 1 << 64;
 
 impl Decimal {
@@ -41,6 +41,8 @@ impl Decimal {
     pub fn read(bytes: &[u8]) -> Result<Decimal, NumberFault>
         ensures value { IfOk result (λ d. decimal_of bytes.now ≡ Some d) }
         ensures fault { OnErr result (decimal_of bytes.now ≡ None) }
+
+        // By the spelling alone: it is the one kept decimal whose number the text spells.
         ensures spelled { IfOk result (λ d. IsSpelled bytes.now d) }
         ensures only { (d : Decimal) → IsSpelled bytes.now d → result ≡ Ok d }
     {
@@ -61,6 +63,8 @@ impl Decimal {
     /// The number, where it is whole and from -2^64 to 2^64.
     pub fn whole(&self) -> Option<i128>
         ensures value { result ≡ whole_of self.now }
+
+        // By the number alone: it is the one whole number in reach that equals the decimal.
         ensures same { IfSome result (λ z. IsSame (units (pos 0) z) (number_of self.now)) }
         ensures within { IfSome result (λ z. unsigned_abs z ≤ 2 ^ 64) }
         ensures only { (z : ℤ) → unsigned_abs z ≤ 2 ^ 64 → IsSame (units (pos 0) z) (number_of self.now)
