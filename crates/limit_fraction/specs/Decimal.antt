@@ -26,10 +26,11 @@ kept_parts m e = kept_if m e (dec_lt (unsigned_abs m) (10 ^ 28)) (dec_le (unsign
 abbrev pub within_64 : ℤ → Option ℤ
 within_64 z = if nat_le (unsigned_abs z) (2 ^ 64) then Some z else None
 
--- the whole number `m * 10^e`, where it is whole and from -2^64 to 2^64, for parts that are kept
+-- the number of these parts, which is whole where no digit stands behind the point
 abbrev pub whole_at : ℤ → ℤ → Option ℤ
 whole_at m (pos e) = within_64 (m *ℤ pos (10 ^ e))
 whole_at m (negsuc e) = None
 
+-- the number of a decimal, where it is whole and from -2^64 to 2^64
 abbrev pub whole_of : Decimal → Option ℤ
 whole_of d = whole_at d.mantissa d.exponent

@@ -57,6 +57,7 @@ number_behind negative bs = number_from negative (digits_of bs) (fraction_of (af
 abbrev pub number_in : List ℕ → Option Number
 number_in bs = number_behind (sign_of bs).0 (sign_of bs).1
 
+-- one ten more was taken off
 abbrev one_more : ℕ × ℕ → ℕ × ℕ
 one_more r = (r.0, r.1 + 1)
 

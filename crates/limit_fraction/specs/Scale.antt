@@ -4,9 +4,11 @@ use Rattle.limit_fraction.specs.declared.scaling.UnitScale.{UnitScale}
 use Rattle.limit_fraction.specs.Number.{Number, in_unit, units}
 use Rattle.limit_fraction.specs.Unit.{unit_of}
 
+-- the number of the factor
 abbrev pub factor_of : UnitScale → Number
 factor_of scale = units scale.exponent scale.factor
 
+-- the number of the offset
 abbrev pub offset_of : UnitScale → Number
 offset_of scale = units scale.exponent scale.offset
 

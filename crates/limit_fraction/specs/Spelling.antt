@@ -27,6 +27,7 @@ pub record IsMarked (bs : List ℕ) (exponent : ℤ) : Type 0 where
   pub some : digits ≢ []
   pub value : exponent ≡ signed negative (value_after 0 digits)
 
+-- an exponent, which may be left out
 abbrev pub IsExponent : List ℕ → ℤ → Type 0
 IsExponent bs exponent = ((bs ≡ []) × (exponent ≡ pos 0)) ⊎ IsMarked bs exponent
 
