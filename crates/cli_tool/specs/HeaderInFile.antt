@@ -1,5 +1,5 @@
 -- What the text of a file gives: a database with a header, or a refusal.
-use Rattle.std.specs.Prelude.{ℕ, Bool, true, not, ◌&&◌, nat_lt, if◌then◌else◌, List, [], ◌∷◌, map, length, Result, Ok, Err}
+use Rattle.std.specs.Prelude.{ℕ, nat_lt, if◌then◌else◌, List, map, length, Result, Ok, Err}
 use Rattle.can_model.specs.declared.database.Database.{Database}
 use Rattle.can_model.specs.declared.refusal.TextKind.TheVariants.{TooLarge, NotYet}
 use Rattle.can_model.specs.Refusal.{Refusal}

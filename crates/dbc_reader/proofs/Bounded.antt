@@ -1,5 +1,5 @@
 -- A number that is kept is at most the limit of its place in the template.
-use Rattle.std.proofs.Common.{◌≡◌, ℕ, ◌<◌, ◌≤◌, Bool, true, false, cond, List, [], ◌∷◌, length, Result, Ok, Err, refl, sym, ap, subst, ◌∙◌, arith}
+use Rattle.std.proofs.Common.{◌≡◌, ℕ, ◌≤◌, Bool, true, false, cond, List, [], ◌∷◌, length, Result, Ok, Err, refl, sym, ap, subst, ◌∙◌, arith}
 use Rattle.std.specs.Prelude.{codes, IfOk}
 use Rattle.std.specs.declared.option.Option.{Option}
 use Rattle.std.specs.declared.option.Option.TheVariants.{None, Some}
@@ -12,9 +12,8 @@ use Rattle.dbc_reader.specs.declared.token.Token.{Token}
 use Rattle.dbc_reader.specs.declared.token.Token.TheVariants.{Word, Number, String, Mark, Bad}
 use Rattle.dbc_reader.specs.declared.token.Lexed.{Lexed}
 use Rattle.dbc_reader.specs.declared.statement.Statement.{Statement}
-use Rattle.dbc_reader.specs.declared.statement.Body.{Body}
 use Rattle.dbc_reader.specs.Number.{whole_in}
-use Rattle.dbc_reader.specs.Template.{Want, word, string, mark, whole_number, Field, number_field, text_field, no_field, number_or_fault, given}
+use Rattle.dbc_reader.specs.Template.{whole_number, Field, number_field, text_field, no_field, number_or_fault, given}
 use Rattle.dbc_reader.specs.Rows.{Row, version, nodes, message, message_body, row_of}
 use Rattle.dbc_reader.specs.Tokens.{tokens, end_line}
 use Rattle.dbc_reader.specs.Reading.{all_of, too_large, statements_of, fault_at}

@@ -1,5 +1,5 @@
 -- The header's parts say the lines of a guarded header, each message its three macros.
-use Rattle.std.proofs.Common.{◌≡◌, ◌⊎◌, inl, inr, ℕ, ◌+◌, ◌^◌, ◌<◌, ◌≤◌, Bool, true, false, cond, ◌||◌, List, [], ◌∷◌, ◌++◌, map, refl, sym, ap, subst, ◌∙◌, arith, append_assoc}
+use Rattle.std.proofs.Common.{◌≡◌, inl, inr, ℕ, true, false, List, [], ◌∷◌, ◌++◌, refl, sym, subst, arith, append_assoc}
 use Rattle.std.specs.Prelude.{codes}
 use Rattle.std.specs.List.{AllByRecursion, flat_map}
 use Rattle.std.specs.Char.{is_ascii_lowercase, to_ascii_uppercase}
@@ -14,17 +14,14 @@ use Rattle.c_mean.specs.SeenToken.{Bare}
 use Rattle.c_mean.specs.StandardHeader.{stdbool_h, stddef_h, stdint_h}
 use Rattle.c_mean.specs.Directive.{standard, define, conditional, endif}
 use Rattle.c_mean.specs.Preprocessing.{Named}
-use Rattle.c_mean.specs.declared.token.TokenKind.TheVariants.{Constant as Number}
 use Rattle.c_mean.proofs.Boundary.{pass-all, pass-append}
-use Rattle.c_mean.proofs.Constants.{constant}
-use Rattle.c_mean.proofs.HeaderLines.{apart}
 use Rattle.c_mean.proofs.Defines.{defines}
 use Rattle.c_mean.proofs.GuardedHeader.{guarded_header}
 use Rattle.gen_unit.specs.Parts.{end_if}
-use Rattle.gen_unit.specs.Header.{error_name, opening_text, upper, guard_of, prefix_of, about, message_parts, opening_parts, include_parts, error_parts, header_parts}
+use Rattle.gen_unit.specs.Header.{error_name, upper, guard_of, prefix_of, message_parts, opening_parts, include_parts, error_parts, header_parts}
 use Rattle.gen_unit.specs.Small.{IsSmallMessage, AreSmall}
 use Rattle.gen_unit.specs.declared.parts.MacroBody.{MacroBody}
-use Rattle.gen_unit.specs.declared.parts.MacroBody.TheVariants.{Empty, Plain, Hexadecimal, Unsigned, Flag}
+use Rattle.gen_unit.specs.declared.parts.MacroBody.TheVariants.{Plain, Hexadecimal, Unsigned, Flag}
 use Rattle.gen_unit.proofs.PartLines.{BareLine, body_tokens, SayAll, say-append}
 
 -- ---- names

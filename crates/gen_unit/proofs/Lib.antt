@@ -2,3 +2,4 @@ pub mod PartLines
 pub mod HeaderLines
 pub mod NewMacros
 pub mod Meaning
+mod Rows

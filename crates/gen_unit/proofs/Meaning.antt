@@ -1,5 +1,5 @@
 -- The header declares its constants: its lines are those of a guarded header, whose macros are new.
-use Rattle.std.proofs.Common.{◌≡◌, ℕ, ◌^◌, ◌<◌, Bool, true, false, cond, List, [], ◌∷◌, ◌++◌, map, Result, Ok, Err, refl, sym, ap, subst, ◌∙◌, arith}
+use Rattle.std.proofs.Common.{◌≡◌, ℕ, true, false, List, [], ◌∷◌, ◌++◌, map, Result, Ok, Err, refl, ap, ◌∙◌, arith}
 use Rattle.std.specs.Prelude.{codes}
 use Rattle.std.specs.declared.option.Option.TheVariants.{Some, None}
 use Rattle.std.specs.List.{AllByRecursion, flat_map}
@@ -11,8 +11,6 @@ use Rattle.c_mean.specs.Characters.{goes_on, Pass}
 use Rattle.c_mean.specs.Splice.{is_plain}
 use Rattle.c_mean.specs.Piece.{in_string}
 use Rattle.c_mean.specs.declared.token.Token.{Token}
-use Rattle.c_mean.specs.declared.token.TokenKind.{TokenKind}
-use Rattle.c_mean.specs.declared.refusal.CKind.{CKind}
 use Rattle.c_mean.specs.declared.preprocessed.Preprocessed.{Preprocessed}
 use Rattle.c_mean.specs.Directive.{quoted}
 use Rattle.c_mean.specs.Preprocessing.{preprocessed_texts}
@@ -22,12 +20,12 @@ use Rattle.c_mean.proofs.PrintedLines.{bytes-in_string, bytes-plain}
 use Rattle.c_mean.proofs.HeaderLines.{quoted-line}
 use Rattle.c_mean.proofs.TextLines.{AreLines, texts-lines}
 use Rattle.c_mean.proofs.GuardedHeader.{guarded_header, guarded-left}
-use Rattle.gen_unit.specs.Header.{guard_of, prefix_of, header_parts, header_text}
+use Rattle.gen_unit.specs.Header.{guard_of, header_parts, header_text}
 use Rattle.name_rules.specs.Distinct.{are_distinct}
-use Rattle.gen_unit.specs.HeaderMeaning.{Macro, number, constants_of, macros_of, header_name, including, DeclaresConstants}
+use Rattle.gen_unit.specs.HeaderMeaning.{Macro, number, constants_of, header_name, including, DeclaresConstants}
 use Rattle.gen_unit.specs.Small.{AreSmall}
 use Rattle.gen_unit.proofs.PartLines.{BareLine, parts-lines}
-use Rattle.gen_unit.proofs.HeaderLines.{message_macros, all_macros, error_body, say-header, identifier-bytes}
+use Rattle.gen_unit.proofs.HeaderLines.{all_macros, error_body, say-header, identifier-bytes}
 use Rattle.gen_unit.proofs.NewMacros.{ids, guard-error, macros-new}
 
 -- ---- the source

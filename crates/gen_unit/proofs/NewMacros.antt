@@ -1,15 +1,15 @@
 -- The macros of a header have different names: their ends tell the kinds apart, and the identifiers the messages.
-use Rattle.std.proofs.Common.{◌≡◌, ℕ, ◌+◌, ◌^◌, ◌<◌, ◌≤◌, Bool, true, false, not, ◌||◌, ◌&&◌, eqb, List, [], ◌∷◌, ◌++◌, map, length, reverse, refl, sym, ap, subst, ◌∙◌, arith, append_assoc}
+use Rattle.std.proofs.Common.{◌≡◌, ℕ, Bool, true, false, not, ◌||◌, ◌&&◌, eqb, List, [], ◌∷◌, ◌++◌, map, reverse, refl, sym, ap, ◌∙◌, arith, append_assoc}
 use Rattle.std.specs.Prelude.{codes}
-use Rattle.std.specs.List.{AllByRecursion, flat_map, list_any}
+use Rattle.std.specs.List.{AllByRecursion, list_any}
 use Rattle.std.specs.Str.{bytes_eq}
 use Rattle.std.specs.Bool.{Decides}
-use Rattle.std.specs.Char.{is_ascii_lowercase, to_ascii_uppercase, to_ascii_lowercase}
+use Rattle.std.specs.Char.{to_ascii_uppercase, to_ascii_lowercase}
 use Rattle.std.proofs.lemmas.List.{map-append, append_cancel_left, append_cancel_right, reverse-append}
 use Rattle.std.proofs.lemmas.Bool.Decides.{nat_tests, not_from_Decides}
 use Rattle.std.proofs.lemmas.Slice.Eq.{bytes_eq-Decides}
 use Rattle.can_model.specs.declared.database.Message.{Message}
-use Rattle.name_rules.specs.IsIdentifier.{is_identifier_byte, IsIdentifier}
+use Rattle.name_rules.specs.IsIdentifier.{is_identifier_byte}
 use Rattle.name_rules.specs.Identifier.{identifier_of}
 use Rattle.name_rules.proofs.Shape.{identifier_of-IsIdentifier}
 use Rattle.c_mean.specs.SeenToken.{Bare}

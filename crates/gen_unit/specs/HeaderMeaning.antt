@@ -1,5 +1,5 @@
 -- What a header says as C (ISO/IEC 9899:1999, 6.4 and 6.10): its macros, beside a source that includes it alone.
-use Rattle.std.specs.Prelude.{◌≡◌, ℕ, Bool, true, false, if◌then◌else◌, List, [], ◌∷◌, ◌++◌, map, codes, Result, Ok}
+use Rattle.std.specs.Prelude.{◌≡◌, ℕ, Bool, true, false, if◌then◌else◌, List, [], ◌∷◌, ◌++◌, map, codes, Ok}
 use Rattle.std.specs.List.{flat_map}
 use Rattle.can_model.specs.declared.database.Message.{Message}
 use Rattle.c_mean.specs.declared.token.TokenKind.{TokenKind}

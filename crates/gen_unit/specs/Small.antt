@@ -1,5 +1,5 @@
 -- Messages whose numbers are constants of C (ISO/IEC 9899:1999, 6.4.4.1).
-use Rattle.std.specs.Prelude.{ℕ, ◌^◌, ◌<◌, List}
+use Rattle.std.specs.Prelude.{◌^◌, ◌<◌, List}
 use Rattle.std.specs.List.{AllByRecursion}
 use Rattle.can_model.specs.declared.database.Message.{Message}
 

@@ -1,0 +1,30 @@
+-- Worked values of the definitions, by computation.
+use Rattle.std.proofs.Common.{◌≡◌, List, [], ◌∷◌, true, false, refl}
+use Rattle.std.specs.Prelude.{codes}
+use Rattle.std.specs.declared.option.Option.TheVariants.{None}
+use Rattle.can_model.specs.declared.database.Message.{Message}
+use Rattle.name_rules.specs.Identifier.{cut_short}
+use Rattle.gen_unit.specs.Header.{about, guard_of}
+use Rattle.gen_unit.specs.HeaderMeaning.{number, in_brackets, macros_of}
+
+abbrev ping : Message
+ping = record { id = 291; extended = false; name = codes "Ping"; length = 2; cycle = None; comment = []; line = 3 }
+
+abbrev pong : Message
+pong = record { id = 1; extended = true; name = codes "Pong"; length = 0; cycle = None; comment = codes "back"; line = 4 }
+
+two_messages : macros_of (codes "can") (ping ∷ pong ∷ []) ≡
+    (codes "CAN_H", [])
+    ∷ (codes "EINVAL", number 22 10 false ∷ [])
+    ∷ (codes "CAN_PING_FRAME_ID", in_brackets (number 291 16 true))
+    ∷ (codes "CAN_PING_LENGTH", in_brackets (number 2 10 true))
+    ∷ (codes "CAN_PING_IS_EXTENDED", in_brackets (number 0 10 false))
+    ∷ (codes "CAN_PONG_FRAME_ID", in_brackets (number 1 16 true))
+    ∷ (codes "CAN_PONG_LENGTH", in_brackets (number 0 10 true))
+    ∷ (codes "CAN_PONG_IS_EXTENDED", in_brackets (number 1 10 false))
+    ∷ []
+unfolding cut_short
+two_messages = refl
+
+a_comment_follows_a_blank : about pong ≡ codes "Message Pong back"
+a_comment_follows_a_blank = refl
