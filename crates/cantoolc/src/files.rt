@@ -7,8 +7,8 @@ use cg_out::{Failed, Files, ReadFault};
 use std::io::{ErrorKind, Read};
 use std::{fs, io, rt};
 
-/// The files of the machine. A missing file, a name that is no UTF-8 and every other error is
-/// counted and answered as Failed; what they hold is not told.
+/// The files of the machine. A missing file, a name that is no UTF-8 and every other error but a
+/// want of memory is counted and answered as Failed; what they hold is not told.
 #[derive(Drop)]
 pub struct RealFiles<'a, R: rt::Files> {
     rt: &'a R,
@@ -83,6 +83,10 @@ impl<R: rt::Files> Files for RealFiles<'_, R> {
         let before = into.len();
         match read_file(self.rt, name, limit, into) {
             Ok(()) => Ok(()),
+            Err(e) if e.kind() == ErrorKind::OutOfMemory => {
+                into.truncate(before);
+                Err(ReadFault::Memory)
+            }
             Err(_) => {
                 into.truncate(before);
                 self.faults = self.faults.saturating_add(1);
