@@ -9,7 +9,13 @@ use Rattle.can_model.specs.declared.database.Database.{Database}
 use Rattle.dbc_reader.specs.declared.statement.Statement.{Statement}
 use Rattle.dbc_reader.specs.declared.statement.Body.{Body}
 use Rattle.dbc_reader.specs.declared.statement.Body.TheVariants as bodies
-use Rattle.dbc_reader.specs.Reading.{statements_of}
+use Rattle.can_model.specs.declared.refusal.TextKind.TheVariants.{TooLarge}
+use Rattle.dbc_reader.specs.Tokens.{tokens, end_line}
+use Rattle.dbc_reader.specs.Reading.{fault_at, all_of, statements_of}
+use Rattle.dbc_reader.specs.Reading.{too_large as is_too_large}
+use Rattle.dbc_reader.specs.Statements.{IsStatementList}
+use Rattle.dbc_reader.proofs.TokenSpelling.{tokens_spelled}
+use Rattle.dbc_reader.proofs.Exact.{all_sound}
 use Rattle.dbc_reader.specs.Bounds.{IsBoundedBody, AreBounded}
 use Rattle.dbc_reader.proofs.Bounded.{statements-bounded}
 use Rattle.dbc_build.specs.DatabaseOfStatements.{message_of, message_from, message_in, is_kept, database_of}
@@ -19,6 +25,7 @@ use Rattle.name_rules.proofs.Shape.{identifier_of-IsIdentifier}
 use Rattle.cli_tool.specs.FileName.{base_name, stem_of, database_name, is_sym}
 use Rattle.gen_unit.specs.Header.{header_text}
 use Rattle.cli_tool.specs.HeaderInFile.{too_large, not_yet, identifiers_of, named_apart, database_of_read, database_within, database_in}
+use Rattle.cli_tool.specs.HeaderOfFile.{IsDatabaseOf}
 use Rattle.gen_unit.specs.HeaderMeaning.{DeclaresConstants}
 use Rattle.gen_unit.specs.Small.{IsSmallMessage, AreSmall}
 use Rattle.gen_unit.proofs.Meaning.{header-declares}
@@ -73,6 +80,36 @@ readable-within limit file text db e = by_tests (ltb limit (length text)) (is_sy
 readable-in : (file text : List ℕ) (db : Database) → database_in file text ≡ Ok db → IsReadable db
 unfolding database_in
 readable-in file text db e = readable-within 8388608 file text db e
+
+-- ---- their statements
+
+-- what is read is the text's one list of statements
+statements-stand : (text : List ℕ) (ss : List Statement) → statements_of text ≡ Ok ss → IsStatementList ss text
+statements-stand text ss e = by_size (is_too_large text) refl e where
+  by_size : (b : Bool) → is_too_large text ≡ b → ◌≡◌ {A = Result (List Statement) Refusal} (cond b (Err (fault_at TooLarge 0)) (all_of (end_line text) (tokens text))) (Ok ss) → IsStatementList ss text
+  by_size true n f = absurd cc
+  by_size false n f = (n, (tokens text, tokens_spelled text, all_sound (end_line text) (length (tokens text)) (tokens text) ss (omega arith) f))
+
+named-same : (made db : Database) → named_apart made ≡ Ok db → db ≡ made
+named-same made db e = by_names (are_distinct (identifiers_of made)) e where
+  by_names : (r : Bool) → ◌≡◌ {A = Result Database Refusal} (cond r (Ok made) (Err not_yet)) (Ok db) → db ≡ made
+  by_names true f = cc
+  by_names false f = absurd cc
+
+stands-read : (text : List ℕ) (read : Result (List Statement) Refusal) (db : Database) → statements_of text ≡ read → database_of_read read ≡ Ok db → IsDatabaseOf text db
+stands-read text (Ok ss) db h e = record { statements = ss; text_is = statements-stand text ss h; made = named-same (database_of ss) db e }
+stands-read text (Err r) db h e = absurd cc
+
+stands-within : (limit : ℕ) (file text : List ℕ) (db : Database) → database_within limit file text ≡ Ok db → IsDatabaseOf text db
+stands-within limit file text db e = by_tests (ltb limit (length text)) (is_sym file) e where
+  by_tests : (a b : Bool) → ◌≡◌ {A = Result Database Refusal} (cond a (Err too_large) (cond b (Err not_yet) (database_of_read (statements_of text)))) (Ok db) → IsDatabaseOf text db
+  by_tests true b f = absurd cc
+  by_tests false true f = absurd cc
+  by_tests false false f = stands-read text (statements_of text) db refl f
+
+pub database-stands : (file text : List ℕ) (db : Database) → database_in file text ≡ Ok db → IsDatabaseOf text db
+unfolding database_in
+database-stands file text db e = stands-within 8388608 file text db e
 
 -- ---- their headers
 

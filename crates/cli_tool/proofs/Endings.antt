@@ -14,7 +14,7 @@ use Rattle.cli_tool.specs.FileName.{database_name, header_path}
 use Rattle.gen_unit.specs.Header.{header_text}
 use Rattle.gen_unit.specs.HeaderMeaning.{DeclaresConstants}
 use Rattle.cli_tool.specs.HeaderOfFile.{IsHeaderOf}
-use Rattle.cli_tool.proofs.DatabaseMeaning.{database-declares}
+use Rattle.cli_tool.proofs.DatabaseMeaning.{database-stands, database-declares}
 use Rattle.cli_tool.specs.HeaderInFile.{database_within, database_in, header_of_database, header_in}
 use Rattle.cli_tool.specs.Report.{written_report}
 use Rattle.cli_tool.specs.Telling.{Tells, TellsRefusal, PutsHeader, TearsFile, TellsHeader}
@@ -82,7 +82,7 @@ header_of_read file text header old mid r h =
     let d = header_in-Ok file (database_in file text) header h in
     let meaning = subst (λ (x : List ℕ). DeclaresConstants (database_name file) d.0.messages x) (sym d.2) (database-declares file text d.0 d.1) in
     OfText-weaker old file (λ bytes. text ≡ take (8388608 + 1) bytes) (λ bytes. IsHeaderOf file bytes header)
-    (λ bytes e. record { db = d.0; database_is = database_in-cut file text bytes (Ok d.0) e d.1; bytes = d.2; meaning = meaning }) r.text_is
+    (λ bytes e. let whole = database_in-cut file text bytes (Ok d.0) e d.1 in record { db = d.0; database_is = whole; statements = database-stands file bytes d.0 whole; bytes = d.2; meaning = meaning }) r.text_is
 
 -- what the text's header did to the files, when only the time since the read is known
 of_header : (file header : List ℕ) (old mid new : FilesSeen) (P : List ℕ → Folder → Folder → Type 0) → OfText old file (λ bytes. IsHeaderOf file bytes header) → mid.content ≡ old.content
