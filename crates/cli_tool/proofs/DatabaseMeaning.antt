@@ -57,6 +57,25 @@ small-filter (m ∷ ms) h = elim (is_kept m) as (λ b. AreSmall (cond b (m ∷ f
 
 -- ---- databases that are read
 
+-- the database is that of the statements that are read, and its messages have their own names
+abbrev IsRead : List ℕ → Database → Type 0
+IsRead text db = (ss : List Statement) × (statements_of text ≡ Ok ss) × (named_apart (database_of ss) ≡ Ok db)
+
+read-of : (text : List ℕ) (read : Result (List Statement) Refusal) (db : Database) → statements_of text ≡ read → database_of_read read ≡ Ok db → IsRead text db
+read-of text (Ok ss) db h e = (ss, h, e)
+read-of text (Err r) db h e = absurd cc
+
+read-within : (limit : ℕ) (file text : List ℕ) (db : Database) → database_within limit file text ≡ Ok db → IsRead text db
+read-within limit file text db e = by_tests (ltb limit (length text)) (is_sym file) e where
+  by_tests : (a b : Bool) → ◌≡◌ {A = Result Database Refusal} (cond a (Err too_large) (cond b (Err not_yet) (database_of_read (statements_of text)))) (Ok db) → IsRead text db
+  by_tests true b f = absurd cc
+  by_tests false true f = absurd cc
+  by_tests false false f = read-of text (statements_of text) db refl f
+
+read-in : (file text : List ℕ) (db : Database) → database_in file text ≡ Ok db → IsRead text db
+unfolding database_in
+read-in file text db e = read-within 8388608 file text db e
+
 abbrev IsReadable : Database → Type 0
 IsReadable db = AreSmall db.messages × (are_distinct (identifiers_of db) ≡ true)
 
@@ -66,20 +85,10 @@ readable-named made db h e = by_names (are_distinct (identifiers_of made)) refl 
   by_names true d f = let same : made ≡ db = cc in subst IsReadable same (h, d)
   by_names false d f = absurd cc
 
-readable-read : (read : Result (List Statement) Refusal) (db : Database) → ((ss : List Statement) → read ≡ Ok ss → AreBounded ss) → database_of_read read ≡ Ok db → IsReadable db
-readable-read (Ok ss) db h e = readable-named (database_of ss) db (small-filter (filter_map message_in ss) (small-messages ss (h ss refl))) e
-readable-read (Err r) db h e = absurd cc
-
-readable-within : (limit : ℕ) (file text : List ℕ) (db : Database) → database_within limit file text ≡ Ok db → IsReadable db
-readable-within limit file text db e = by_tests (ltb limit (length text)) (is_sym file) e where
-  by_tests : (a b : Bool) → ◌≡◌ {A = Result Database Refusal} (cond a (Err too_large) (cond b (Err not_yet) (database_of_read (statements_of text)))) (Ok db) → IsReadable db
-  by_tests true b f = absurd cc
-  by_tests false true f = absurd cc
-  by_tests false false f = readable-read (statements_of text) db (λ ss h. statements-bounded text ss h) f
-
-readable-in : (file text : List ℕ) (db : Database) → database_in file text ≡ Ok db → IsReadable db
-unfolding database_in
-readable-in file text db e = readable-within 8388608 file text db e
+readable-read : (text : List ℕ) (db : Database) → IsRead text db → IsReadable db
+readable-read text db r =
+    let small = small-filter (filter_map message_in r.0) (small-messages r.0 (statements-bounded text r.0 r.1)) in
+    readable-named (database_of r.0) db small r.2
 
 -- ---- their statements
 
@@ -96,20 +105,10 @@ named-same made db e = by_names (are_distinct (identifiers_of made)) e where
   by_names true f = cc
   by_names false f = absurd cc
 
-stands-read : (text : List ℕ) (read : Result (List Statement) Refusal) (db : Database) → statements_of text ≡ read → database_of_read read ≡ Ok db → IsDatabaseOf text db
-stands-read text (Ok ss) db h e = record { statements = ss; text_is = statements-stand text ss h; made = named-same (database_of ss) db e }
-stands-read text (Err r) db h e = absurd cc
-
-stands-within : (limit : ℕ) (file text : List ℕ) (db : Database) → database_within limit file text ≡ Ok db → IsDatabaseOf text db
-stands-within limit file text db e = by_tests (ltb limit (length text)) (is_sym file) e where
-  by_tests : (a b : Bool) → ◌≡◌ {A = Result Database Refusal} (cond a (Err too_large) (cond b (Err not_yet) (database_of_read (statements_of text)))) (Ok db) → IsDatabaseOf text db
-  by_tests true b f = absurd cc
-  by_tests false true f = absurd cc
-  by_tests false false f = stands-read text (statements_of text) db refl f
-
 pub database-stands : (file text : List ℕ) (db : Database) → database_in file text ≡ Ok db → IsDatabaseOf text db
-unfolding database_in
-database-stands file text db e = stands-within 8388608 file text db e
+database-stands file text db e =
+    let r = read-in file text db e in
+    record { statements = r.0; text_is = statements-stand text r.0 r.1; made = named-same (database_of r.0) db r.2 }
 
 -- ---- their headers
 
@@ -119,5 +118,5 @@ named-identifier file = identifier_of-IsIdentifier (stem_of (base_name file))
 
 pub database-declares : (file text : List ℕ) (db : Database) → database_in file text ≡ Ok db → DeclaresConstants (database_name file) db.messages (header_text (database_name file) db.messages)
 database-declares file text db e =
-    let r = readable-in file text db e in
+    let r = readable-read text db (read-in file text db e) in
     header-declares (database_name file) db.messages (named-identifier file) r.0 r.1
