@@ -1,4 +1,8 @@
 pub mod Refusal
+pub mod Sequence
+pub mod Symbol
+pub mod Brackets
+pub mod Operators
 pub mod Characters
 pub mod IntegerConstant
 pub mod Punctuator
@@ -10,6 +14,17 @@ pub mod BareTokens
 pub mod StandardHeader
 pub mod Directive
 pub mod MacroDefinition
+pub mod TypeName
+pub mod ExpressionCut
+pub mod ExpressionPart
+pub mod CaseValue
+pub mod StatementCut
+pub mod Cut
+pub mod FirstFault
+pub mod StatementPart
+pub mod PlainExpression
+pub mod PlainStatement
+pub mod PlainUnit
 pub mod Conditional
 pub mod Preprocessing
 pub mod BarePreprocessing

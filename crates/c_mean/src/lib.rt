@@ -7,14 +7,22 @@
 //! ```
 #![tactic(auto)]
 
+mod expression;
+mod item;
 mod place;
 mod preprocessed;
 mod refusal;
+mod statement;
+mod symbol;
 mod token;
 
+pub use expression::{BinaryOp, Expr, ExprKind, UnaryOp};
+pub use item::{CType, Field, Function, Item, Struct, Target, Unit};
 pub use place::Place;
 pub use preprocessed::{Macro, Preprocessed};
 pub use refusal::{CFault, CKind};
+pub use statement::{AssignOp, Stmt, StmtKind, SwitchPart};
+pub use symbol::{Bracket, Keyword, Punctuator};
 pub use token::{Constant, IntType, Spelled, Token, TokenKind};
 
 #[cfg(test)]

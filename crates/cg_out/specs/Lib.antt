@@ -1,3 +1,4 @@
+pub mod Text
 pub mod Outside
 pub mod InMemory
 pub mod Slots

@@ -15,10 +15,7 @@ fn lists_and_boxes_lead_back(rt: HostRuntime) -> Result<(), Fail> {
     let alloc = rt.alloc();
     let mut children = List::new(alloc);
     children.push(Tree::Leaf(Text::copy_of(alloc, b"a")?))?;
-    children.push(Tree::Over(Boxed::new(
-        alloc,
-        Tree::Leaf(Text::from(Vec::from_slice(alloc, b"bc")?)),
-    )?))?;
+    children.push(Tree::Over(Boxed::new(alloc, Tree::Leaf(Text::copy_of(alloc, b"bc")?))?))?;
     let tree = Tree::Node(children);
     let Tree::Node(children) = &tree else {
         return Err("the node stays a node")?;
@@ -33,6 +30,19 @@ fn lists_and_boxes_lead_back(rt: HostRuntime) -> Result<(), Fail> {
     };
     assert_eq!(rt; inner.bytes(), b"bc".as_slice());
     assert_eq!(rt; Boxed::new(alloc, 7u32)?.into_inner(), 7);
+    Ok(())
+}
+
+#[test]
+fn a_text_keeps_its_bytes_wherever_they_lie(rt: HostRuntime) -> Result<(), Memory> {
+    for bytes in [
+        b"".as_slice(),
+        b"fourteen_bytes",
+        b"fifteen__bytes!",
+        b"a name that is longer than any text with room in itself",
+    ] {
+        assert_eq!(rt; Text::copy_of(rt.alloc(), bytes)?.bytes(), bytes);
+    }
     Ok(())
 }
 
