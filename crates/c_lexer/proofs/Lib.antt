@@ -1,0 +1,5 @@
+pub mod Lengths
+pub mod ConstantParts
+pub mod MarkTables
+pub mod OneLine
+pub mod Scan
