@@ -1,0 +1,242 @@
+#!/usr/bin/env python3
+"""Times `tokens` and `expand` on generated C of 8 MB and of nearly 64 MiB.
+
+Builds a small program over copies of the crates in a folder of its own, which proves what is not kept
+on this machine yet. Prints of each run the seconds and the seconds of a processor (the best of three,
+reading and freeing included), the bytes a second and the time a byte by the latter, the peak memory
+and that beside the text for each token; and how fast the time grows with the text: an exponent of 1 is
+linear. `expand` cuts the text first, and takes it as a source with an empty header. With
+`--keep FOLDER` that folder is made or used again, and left.
+"""
+import math
+import os
+import shutil
+import subprocess
+import sys
+import tempfile
+import time
+
+TOP = os.path.dirname(os.path.dirname(os.path.abspath(__file__)))
+CRATES = ["cg_out", "c_mean", "c_lexer", "c_pre"]
+NAME = "lexer_bench"
+COLUMNS = ["call", "bytes", "tokens", "left", "macros", "seconds", "processor", "MB/s", "ns/byte", "peak MB", "B/token"]
+LIMIT = 67_108_864
+RUNS = 3
+PROGRAM = r"""//! Reads the file of its second word; by its first, `tokens` cuts it and `expand` preprocesses it as
+//! a source besides. Prints how many bytes, tokens, tokens that are left and macros there are.
+#![tactic(auto)]
+
+use c_lexer::{SOURCE_LIMIT, tokens};
+use c_mean::CFault;
+use c_pre::expand;
+use std::alloc::Global;
+use std::io::{ErrorKind, Read};
+use std::process::ExitCode;
+use std::rt::Files;
+use std::{env, fs, io};
+
+const PIECE: usize = 16384;
+
+/// The file's bytes, in a Vec of which only the pages are touched that they fill.
+fn read_text<R: Files>(rt: &R, alloc: Global, path: &str) -> io::Result<Vec<u8>> {
+    let mut file = fs::open(rt, path)?;
+    let mut text = Vec::with_capacity(alloc, SOURCE_LIMIT)?;
+    let mut piece = [0u8; PIECE];
+    for _ in 0..u64::MAX {
+        let taken = file.read(&mut piece)?;
+        if taken == 0 {
+            return Ok(text);
+        }
+        text.extend_from_slice(&piece[..taken])?;
+    }
+    Err(ErrorKind::Other.into())
+}
+
+/// How many tokens there are, and where they are preprocessed how many are left and how many macros.
+fn counts(alloc: Global, word: &str, text: &[u8]) -> Result<(usize, usize, usize), CFault> {
+    if word == "read" || text.len() > SOURCE_LIMIT {
+        return Ok((0, 0, 0));
+    }
+    let list = tokens(alloc, text, false)?;
+    if word == "tokens" {
+        return Ok((list.len(), 0, 0));
+    }
+    let left = expand(alloc, &[], b"bench.h", &list)?;
+    Ok((
+        list.len(),
+        left.tokens.items().len(),
+        left.macros.items().len(),
+    ))
+}
+
+fn shown(rt: &HostRuntime) -> io::Result<bool> {
+    let alloc = rt.alloc();
+    let mut words = env::args(rt)?.skip(1);
+    let (Some(word), Some(path)) = (words.next(), words.next()) else {
+        return Ok(false);
+    };
+    let text = read_text(rt, alloc, path.as_str())?;
+    let bytes = text.len();
+    let Ok((all, left, macros)) = counts(alloc, word.as_str(), &text) else {
+        return Ok(false);
+    };
+    println!(rt; "{bytes} {all} {left} {macros}")?;
+    Ok(true)
+}
+
+fn main(rt: HostRuntime) -> ExitCode {
+    match shown(&rt) {
+        Ok(true) => ExitCode::SUCCESS,
+        _ => ExitCode::FAILURE,
+    }
+}
+"""
+
+MESSAGES = ["abs_data", "engine_status", "gateway_wakeup", "motor_torque", "steering_angle_sensor"]
+SIGNALS = ["engine_speed", "oil_temperature", "wheel_speed_front_left", "mode", "yaw_rate", "checksum"]
+
+
+def message(number):
+    name = f"{MESSAGES[number % 5]}_{number}"
+    return f"vehicle_{name}", [SIGNALS[(number + i) % 6] for i in range(2 + number % 4)]
+
+
+def defines(number):
+    name, signals = message(number)
+    upper = name.upper()
+    lines = [
+        f"/* Message {name} */",
+        f"#define {upper}_FRAME_ID (0x{number & 0x7FF:x}u)",
+        f"#define {upper}_LENGTH ({2 * len(signals)}u)",
+        f"#define {upper}_IS_EXTENDED ({number % 2})",
+        "",
+        "/**",
+        f" * Signals in message {name}.",
+        " *",
+        " * All signal values are as on the CAN bus.",
+        " */",
+        f"struct {name}_t {{",
+    ]
+    for signal in signals:
+        lines += ["    /**", "     * Range: -", "     * Scale: 1", "     * Offset: 0", "     */", f"    uint16_t {signal};", ""]
+    return lines + ["};", ""]
+
+
+def functions(number):
+    name, signals = message(number)
+    lines = [
+        f"int {name}_pack(",
+        "    uint8_t *dst_p,",
+        f"    const struct {name}_t *src_p,",
+        "    size_t size)",
+        "{",
+    ]
+    lines += [f"    uint16_t {signal};" for signal in signals]
+    lines += ["", f"    if (size < {name.upper()}_LENGTH) {{", "        return (-EINVAL);", "    }", ""]
+    lines += [f"    memset(dst_p, 0, {2 * len(signals)});", ""]
+    for i, signal in enumerate(signals):
+        lines += [
+            f"    {signal} = (uint16_t)src_p->{signal};",
+            f"    dst_p[{2 * i}] |= pack_left_shift_u16({signal}, 0u, 0xffu);",
+            f"    dst_p[{2 * i + 1}] |= pack_right_shift_u16({signal}, 8u, 0xffu);",
+        ]
+    return lines + ["", f"    return ({2 * len(signals)});", "}", ""]
+
+
+def joined(lines):
+    return "\n".join(lines) + "\n"
+
+
+def write_text(path, limit):
+    """Writes a header's part and a source's part for so many messages that the text stays below the limit."""
+    front = ["/* Generated from a CAN database. Do not edit. */", "", "#ifndef VEHICLE_H", "#define VEHICLE_H", ""]
+    front += ["#include <stdbool.h>", "#include <stddef.h>", "#include <stdint.h>", "#include <string.h>", ""]
+    front += ["#ifndef EINVAL", "#define EINVAL 22", "#endif", ""]
+    end = ["#endif", ""]
+    size, messages = len(joined(front)) + len(joined(end)), 0
+    while True:
+        size += len(joined(defines(messages))) + len(joined(functions(messages)))
+        if size >= limit:
+            break
+        messages += 1
+    with open(path, "w", encoding="ascii") as f:
+        f.write(joined(front))
+        for number in range(messages):
+            f.write(joined(defines(number)))
+        f.write(joined(end))
+        for number in range(messages):
+            f.write(joined(functions(number)))
+
+
+def build(folder):
+    """The program over copies of the crates."""
+    for crate in CRATES:
+        for part in ("src", "specs", "proofs"):
+            to = os.path.join(folder, "crates", crate, part)
+            shutil.rmtree(to, ignore_errors=True)
+            shutil.copytree(os.path.join(TOP, "crates", crate, part), to)
+    with open(os.path.join(TOP, "crates.txt"), encoding="ascii") as f:
+        lines = [line for line in f if line.split(":")[0] in CRATES]
+    with open(os.path.join(folder, "crates.txt"), "w", encoding="ascii") as f:
+        f.writelines(lines + [f"{NAME}: c_pre c_lexer c_mean cg_out\n"])
+    crate = os.path.join(folder, "crates", NAME)
+    for part in ("src", "specs", "proofs"):
+        os.makedirs(os.path.join(crate, part), exist_ok=True)
+    for part in ("specs", "proofs"):
+        open(os.path.join(crate, part, "Lib.antt"), "a", encoding="ascii").close()
+    with open(os.path.join(crate, "src", "main.rt"), "w", encoding="ascii") as f:
+        f.write(PROGRAM)
+    log = os.path.join(folder, "log")
+    with open(log, "w", encoding="utf-8") as f:
+        subprocess.run(["rt", "run"], cwd=crate, stdin=subprocess.DEVNULL, stdout=f, stderr=f, check=False)
+    program = os.path.join(crate, "out", NAME)
+    if not os.path.exists(program):
+        with open(log, encoding="utf-8") as f:
+            sys.exit("not built:\n" + "".join(f.readlines()[-20:]))
+    return program
+
+
+def measure(program, word, path):
+    """The best time, the least time of a processor, the peak memory in bytes, and what the program counted.
+
+    The peak is at least this script's own, some 15 MB, which is why no text is kept here.
+    """
+    best, used, peak = math.inf, math.inf, 0
+    for _ in range(RUNS):
+        start = time.perf_counter()
+        process = subprocess.Popen([program, word, path], stdout=subprocess.PIPE)
+        out = process.stdout.read()
+        _, status, usage = os.wait4(process.pid, 0)
+        best = min(best, time.perf_counter() - start)
+        used = min(used, usage.ru_utime + usage.ru_stime)
+        peak = max(peak, usage.ru_maxrss * 1024)
+        if os.waitstatus_to_exitcode(status) != 0:
+            sys.exit(f"the program failed at {word} {path}")
+    return best, used, peak, [int(word) for word in out.split()]
+
+
+def main():
+    with tempfile.TemporaryDirectory() as scratch:
+        folder = scratch
+        if sys.argv[1:2] == ["--keep"]:
+            folder = os.path.abspath(sys.argv[2])
+            os.makedirs(folder, exist_ok=True)
+        program = build(folder)
+        rows = []
+        print(" ".join(f"{name:>10}" for name in COLUMNS))
+        for size in (8_000_000, LIMIT):
+            path = os.path.join(scratch, f"bench{size}.c")
+            write_text(path, size)
+            for word in ("read", "tokens", "expand"):
+                seconds, used, peak, (length, tokens, left, macros) = measure(program, word, path)
+                beside = f"{(peak - length) / tokens:.1f}" if tokens else ""
+                row = [word, length, tokens, left, macros, f"{seconds:.3f}", f"{used:.3f}", f"{length / used / 1e6:.1f}"]
+                row += [f"{used / length * 1e9:.2f}", f"{peak / 1e6:.1f}", beside]
+                print(" ".join(f"{column:>10}" for column in row))
+                rows.append((word, length, used))
+    for word in ("tokens", "expand"):
+        (small, quick), (large, slow) = [(length, used) for w, length, used in rows if w == word]
+        print(f"exponent of time of {word}: {math.log(slow / quick) / math.log(large / small):.2f}")
+
+
+main()

@@ -1,0 +1,10 @@
+pub mod Seen
+pub mod Tables
+pub mod Angled
+pub mod Whole
+pub mod Cut
+pub mod Bodies
+pub mod Unjoined
+pub mod Names
+pub mod Outcome
+pub mod Skipping

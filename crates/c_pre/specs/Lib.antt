@@ -1,0 +1,6 @@
+pub mod Shown
+pub mod Balance
+pub mod Run
+pub mod Parts
+pub mod Entries
+pub mod Kept
