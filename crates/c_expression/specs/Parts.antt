@@ -1,0 +1,15 @@
+-- The tokens behind a comma, if there is one.
+use Rattle.std.specs.Prelude.{ℕ, ◌+◌, List, [], length, Option, Some, None}
+use Rattle.std.specs.Borrow.{Bor}
+use Rattle.c_mean.specs.declared.place.Place.{Place}
+use Rattle.c_mean.specs.declared.token.Token.{Token}
+use Rattle.c_mean.specs.ExpressionCut.{Part, parts}
+
+abbrev pub parts_left : Place → Option (Bor (List Token)) → List Part
+parts_left after None = []
+parts_left after (Some ts) = parts after 0 ts.now
+
+-- how many tokens there are with the comma
+abbrev pub count_left : Option (Bor (List Token)) → ℕ
+count_left None = 0
+count_left (Some ts) = length ts.now + 1
