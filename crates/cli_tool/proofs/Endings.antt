@@ -1,5 +1,5 @@
 -- The steps of a run, joined: what was read, what its text gives, and what was told.
-use Rattle.std.proofs.Common.{◌≡◌, inl, inr, ℕ, ◌+◌, ◌≤◌, true, ltb, List, [], ◌++◌, length, take, Result, Ok, Err, refl, sym, ap, subst, ◌∙◌, arith, length-take}
+use Rattle.std.proofs.Common.{◌≡◌, inl, inr, ℕ, ◌+◌, true, ltb, List, length, take, Result, Ok, Err, refl, sym, ap, subst, ◌∙◌, arith, length-take}
 use Rattle.std.specs.Prelude.{IfSome, IsSomeAnd, IsOk, is_ok}
 use Rattle.std.specs.declared.option.Option.{Option}
 use Rattle.std.specs.declared.option.Option.TheVariants.{None, Some}
@@ -7,7 +7,7 @@ use Rattle.std.specs.FinMap.{get, insert}
 use Rattle.std.proofs.lemmas.Bool.{cases_lt, lt-ltb}
 use Rattle.std.proofs.lemmas.List.{take_all}
 use Rattle.can_model.specs.Refusal.{Refusal}
-use Rattle.cg_out.specs.Outside.{Folder, Rose, IfTold, IsTornWrite, Reads}
+use Rattle.cg_out.specs.Outside.{Folder, IfTold, IsTornWrite}
 use Rattle.cli_tool.specs.World.{FilesSeen, SinkSeen, World, OfText, Calls}
 use Rattle.can_model.specs.declared.database.Database.{Database}
 use Rattle.cli_tool.specs.FileName.{database_name, header_path}
@@ -16,9 +16,11 @@ use Rattle.gen_unit.specs.HeaderMeaning.{DeclaresConstants}
 use Rattle.cli_tool.specs.HeaderOfFile.{IsHeaderOf}
 use Rattle.cli_tool.proofs.DatabaseMeaning.{database-stands, database-declares}
 use Rattle.cli_tool.specs.HeaderInFile.{database_within, database_in, header_of_database, header_in}
-use Rattle.cli_tool.specs.Report.{written_report}
+use Rattle.cli_tool.specs.Report.{written_report, refusal_report}
+use Rattle.cli_tool.specs.Reading.{ReadsText, WantsMemory}
+use Rattle.cli_tool.proofs.Texts.{IsSomeAnd-weaker, OfText-weaker, calls_joined, Rose-earlier}
 use Rattle.cli_tool.specs.Telling.{Tells, TellsRefusal, PutsHeader, TearsFile, TellsHeader}
-use Rattle.cli_tool.specs.Endings.{GenerateEnds, OfHeader, HasDatabase, WritesHeader, TearsHeader, RefusesText, WantsMemory}
+use Rattle.cli_tool.specs.Endings.{GenerateEnds, OfHeader, HasDatabase, WritesHeader, TearsHeader, RefusesText}
 use Rattle.cli_tool.specs.declared.status.Status.{Status}
 use Rattle.cli_tool.specs.declared.status.Status.TheVariants.{Done, Refused, FileFault, OutFault, NoMemory}
 
@@ -37,33 +39,7 @@ database_in-cut : (file text bytes : List ℕ) (given : Result Database Refusal)
 unfolding database_in
 database_in-cut file text bytes given e h = sym (database_within-cut 8388608 file bytes) ∙ ap (database_within 8388608 file) (sym e) ∙ h
 
--- a file that was read: the files as they were and then, and the bytes that came
-pub record Read (file text : List ℕ) (old mid : FilesSeen) : Type 0 where
-  pub text_is : OfText old file (λ bytes. text ≡ take (8388608 + 1) bytes)
-  pub content : mid.content ≡ old.content
-  pub later : old.faults ≤ mid.faults
-  pub calls : Calls old mid 1
-
--- a read into an empty buffer
-pub read_of : (file text start got : List ℕ) (old mid : FilesSeen) → text ≡ got → start ≡ [] → Reads old.content file 8388608 start got → mid.content ≡ old.content → old.faults ≤ mid.faults → Calls old mid 1 → Read file text old mid
-read_of file text start got old mid e s r content later calls = record {
-  text_is = subst (λ (p : List ℕ × List ℕ). IfSome old.content (λ folder. IsSomeAnd (get folder file) (λ bytes. p.0 ≡ p.1 ++ take (8388608 + 1) bytes))) (λ i. (sym e i, s i)) r.told;
-  content = content;
-  later = later;
-  calls = calls;
-}
-
-IsSomeAnd-weaker : {A : Type 0} (o : Option A) (P Q : A → Type 0) → ((x : A) → P x → Q x) → IsSomeAnd o P → IsSomeAnd o Q
-IsSomeAnd-weaker None P Q f h = h
-IsSomeAnd-weaker (Some x) P Q f h = f x h
-
-OfText-weaker : (files : FilesSeen) (file : List ℕ) (P Q : List ℕ → Type 0) → ((x : List ℕ) → P x → Q x) → OfText files file P → OfText files file Q
-OfText-weaker files file P Q f h = by_cases files.content h where
-  by_cases : (o : Option Folder) → IfSome o (λ folder. IsSomeAnd (get folder file) P) → IfSome o (λ folder. IsSomeAnd (get folder file) Q)
-  by_cases None k = k
-  by_cases (Some folder) k = IsSomeAnd-weaker (get folder file) P Q f k
-
-read_gives : (file text : List ℕ) (old mid : FilesSeen) (given : Result Database Refusal) → Read file text old mid → database_in file text ≡ given → OfText old file (λ bytes. database_in file bytes ≡ given)
+read_gives : (file text : List ℕ) (old mid : FilesSeen) (given : Result Database Refusal) → ReadsText 8388608 file text old mid → database_in file text ≡ given → OfText old file (λ bytes. database_in file bytes ≡ given)
 read_gives file text old mid given r h =
     OfText-weaker old file (λ bytes. text ≡ take (8388608 + 1) bytes) (λ bytes. database_in file bytes ≡ given) (λ bytes e. database_in-cut file text bytes given e h) r.text_is
 
@@ -77,7 +53,7 @@ header_in-Err file (Ok db) refusal e = absurd cc
 header_in-Err file (Err r) refusal e = cc
 
 -- where the text was read, its header is that of the file
-header_of_read : (file text header : List ℕ) (old mid : FilesSeen) → Read file text old mid → header_in file text ≡ Ok header → OfText old file (λ bytes. IsHeaderOf file bytes header)
+header_of_read : (file text header : List ℕ) (old mid : FilesSeen) → ReadsText 8388608 file text old mid → header_in file text ≡ Ok header → OfText old file (λ bytes. IsHeaderOf file bytes header)
 header_of_read file text header old mid r h =
     let d = header_in-Ok file (database_in file text) header h in
     let meaning = subst (λ (x : List ℕ). DeclaresConstants (database_name file) d.0.messages x) (sym d.2) (database-declares file text d.0 d.1) in
@@ -94,29 +70,19 @@ of_header file header old mid new P t e h = told old.content new.content t (subs
   told None (Some b) t p = p
   told (Some a) (Some b) t p = IsSomeAnd-weaker (get a file) _ _ (λ bytes q. (header, q, p)) t
 
-calls_joined : (k m n : Option ℕ) (i j : ℕ) → IfTold k m (λ x y. y ≡ x + i) → IfTold m n (λ x y. y ≡ x + j) → IfTold k n (λ x y. y ≡ x + (i + j))
-calls_joined k m None i j p q = tt
-calls_joined k None (Some z) i j p q = absurd q
-calls_joined None (Some y) (Some z) i j p q = absurd p
-calls_joined (Some x) (Some y) (Some z) i j p q = omega arith
-
-Rose-earlier : (a b c : ℕ) → a ≤ b → Rose b c → Rose a c
-Rose-earlier a b c le (inl lt) = inl (omega arith)
-Rose-earlier a b c le (inr e) = inr e
-
-has_database : (file text header : List ℕ) (old mid : FilesSeen) → Read file text old mid → header_in file text ≡ Ok header → HasDatabase file old
+has_database : (file text header : List ℕ) (old mid : FilesSeen) → ReadsText 8388608 file text old mid → header_in file text ≡ Ok header → HasDatabase file old
 has_database file text header old mid r h =
     let d = header_in-Ok file (database_in file text) header h in
     OfText-weaker old file (λ bytes. database_in file bytes ≡ Ok d.0) (λ bytes. IsOk (database_in file bytes)) (λ bytes e. ap is_ok e) (read_gives file text old mid (Ok d.0) r d.1)
 
-writes : (file text header : List ℕ) (old mid new : FilesSeen) → Read file text old mid → header_in file text ≡ Ok header → PutsHeader file header mid new → WritesHeader file old new
+writes : (file text header : List ℕ) (old mid new : FilesSeen) → ReadsText 8388608 file text old mid → header_in file text ≡ Ok header → PutsHeader file header mid new → WritesHeader file old new
 writes file text header old mid new r h p = record {
   cause = has_database file text header old mid r h;
   content = of_header file header old mid new (λ x a b. b ≡ insert a (header_path file) x) (header_of_read file text header old mid r h) r.content p.content;
   calls = calls_joined old.calls mid.calls new.calls 1 1 r.calls p.calls;
 }
 
-tears : (file text header : List ℕ) (old mid new : FilesSeen) → Read file text old mid → header_in file text ≡ Ok header → TearsFile file header mid new → TearsHeader file old new
+tears : (file text header : List ℕ) (old mid new : FilesSeen) → ReadsText 8388608 file text old mid → header_in file text ≡ Ok header → TearsFile file header mid new → TearsHeader file old new
 tears file text header old mid new r h p = record {
   cause = has_database file text header old mid r h;
   failed = Rose-earlier old.faults mid.faults new.faults r.later p.cause;
@@ -124,13 +90,13 @@ tears file text header old mid new r h p = record {
   calls = calls_joined old.calls mid.calls new.calls 1 1 r.calls p.calls;
 }
 
-wants_memory : (file text : List ℕ) (old mid new : FilesSeen) → Read file text old mid → new ≡ mid → WantsMemory old new
+wants_memory : (file text : List ℕ) (old mid new : FilesSeen) → ReadsText 8388608 file text old mid → new ≡ mid → WantsMemory 1 old new
 wants_memory file text old mid new r e = record {
   content = ap (λ (s : FilesSeen). s.content) e ∙ r.content;
   calls = subst (λ (s : FilesSeen). Calls old s 1) (sym e) r.calls;
 }
 
-pub header_ends : (file text header : List ℕ) (files mid : FilesSeen) (out : SinkSeen) (new : World) (status : Status) → Read file text files mid → header_in file text ≡ Ok header
+pub header_ends : (file text header : List ℕ) (files mid : FilesSeen) (out : SinkSeen) (new : World) (status : Status) → ReadsText 8388608 file text files mid → header_in file text ≡ Ok header
     → TellsHeader file header (record { files = mid; out = out }) new status → GenerateEnds file (record { files = files; out = out }) new status
 header_ends file text header files mid out new status r h t = ends t where
   at : (s : Status) → status ≡ s → GenerateEnds file (record { files = files; out = out }) new s → GenerateEnds file (record { files = files; out = out }) new status
@@ -145,8 +111,8 @@ header_ends file text header files mid out new status r h t = ends t where
   ends (inr (inl x)) = at FileFault x.0 (inr (tears file text header files mid new.files r h x.1), x.2)
   ends (inr (inr x)) = told (writes file text header files mid new.files r h x.0) x.1
 
-pub refusal_ends : (file text : List ℕ) (refusal : Refusal) (files mid : FilesSeen) (out out' : SinkSeen) (status : Status) → Read file text files mid → header_in file text ≡ Err refusal
-    → TellsRefusal out out' refusal status → GenerateEnds file (record { files = files; out = out }) (record { files = mid; out = out' }) status
+pub refusal_ends : (file text : List ℕ) (refusal : Refusal) (files mid : FilesSeen) (out out' : SinkSeen) (status : Status) → ReadsText 8388608 file text files mid → header_in file text ≡ Err refusal
+    → TellsRefusal out out' (refusal_report refusal) status → GenerateEnds file (record { files = files; out = out }) (record { files = mid; out = out' }) status
 refusal_ends file text refusal files mid out out' status r h t = ends t where
   at : (s : Status) → status ≡ s → GenerateEnds file (record { files = files; out = out }) (record { files = mid; out = out' }) s → GenerateEnds file (record { files = files; out = out }) (record { files = mid; out = out' }) status
   at s e g = subst (λ (z : Status). GenerateEnds file (record { files = files; out = out }) (record { files = mid; out = out' }) z) (sym e) g
@@ -154,7 +120,7 @@ refusal_ends file text refusal files mid out out' status r h t = ends t where
   refuses : RefusesText file refusal files mid
   refuses = record { cause = read_gives file text files mid (Err refusal) r (header_in-Err file (database_in file text) refusal h); content = r.content; calls = r.calls }
 
-  ends : TellsRefusal out out' refusal status → GenerateEnds file (record { files = files; out = out }) (record { files = mid; out = out' }) status
+  ends : TellsRefusal out out' (refusal_report refusal) status → GenerateEnds file (record { files = files; out = out }) (record { files = mid; out = out' }) status
   ends (inl x) = at NoMemory x.0 (wants_memory file text files mid mid r refl, x.1)
   ends (inr (inl x)) = at Refused x.0 (refusal, refuses, x.1)
   ends (inr (inr x)) = at OutFault x.0 (inr (refusal, refuses, x.1))

@@ -1,31 +1,34 @@
 -- Which ways to end the words and the texts leave open, where the outside did not fail.
-use Rattle.std.specs.Prelude.{◌≡◌, ◌⊎◌, ℕ, List, IsSomeAnd, Ok, Err}
+use Rattle.std.specs.Prelude.{◌≡◌, ◌⊎◌, ℕ, List, IsOk, IsErr}
 use Rattle.std.specs.declared.option.Option.TheVariants.{None, Some}
-use Rattle.std.specs.FinMap.{get}
-use Rattle.can_model.specs.Refusal.{Refusal}
-use Rattle.can_model.specs.declared.database.Database.{Database}
 use Rattle.cg_out.specs.Outside.{Rose}
-use Rattle.cli_tool.specs.Command.{generate_c_source, command_of}
-use Rattle.cli_tool.specs.World.{World}
+use Rattle.cli_tool.specs.Command.{Command, generate_c_source, check, command_of}
+use Rattle.cli_tool.specs.World.{FilesSeen, World, HasText}
 use Rattle.cli_tool.specs.HeaderInFile.{database_in}
+use Rattle.cli_tool.specs.Checked.{checked}
 use Rattle.cli_tool.specs.declared.status.Status.{Status}
 use Rattle.cli_tool.specs.declared.status.Status.TheVariants.{Done, Usage, Refused, OutFault, NoMemory}
 
--- the words ask for the header of a file whose text is told
-pub record AsksFor (words : List (List ℕ)) (world : World) (file text : List ℕ) : Type 0 where
-  pub command : command_of words ≡ Some (generate_c_source file)
-  pub text_is : IsSomeAnd world.files.content (λ folder. get folder file ≡ Some text)
+-- the texts that the command reads are told, and it can be done with them
+abbrev pub IsToBeDone : Command → FilesSeen → Type 0
+IsToBeDone (generate_c_source file) files = HasText files file (λ text. IsOk (database_in file text))
+IsToBeDone (check header source) files = HasText files header (λ h. HasText files source (λ s. IsOk (checked header h s)))
 
--- the header of a text that has a database is written, but for memory
+-- the texts that the command reads are told, and they are to be refused
+abbrev pub IsToBeRefused : Command → FilesSeen → Type 0
+IsToBeRefused (generate_c_source file) files = HasText files file (λ text. IsErr (database_in file text))
+IsToBeRefused (check header source) files = HasText files header (λ h. HasText files source (λ s. IsErr (checked header h s)))
+
+-- a command that can be done is done, but for memory
 abbrev pub CompletesEach : List (List ℕ) → World → World → Status → Type 0
 CompletesEach words old new status =
-    (file text : List ℕ) (db : Database) → AsksFor words old file text → database_in file text ≡ Ok db
+    (command : Command) → command_of words ≡ Some command → IsToBeDone command old.files
     → ¬ Rose old.files.faults new.files.faults → ¬ Rose old.out.faults new.out.faults → (status ≡ Done) ⊎ (status ≡ NoMemory)
 
--- a text that is to be refused is refused, but for the sink and memory
+-- texts that are to be refused are refused, but for the sink and memory
 abbrev pub RefusesEach : List (List ℕ) → World → World → Status → Type 0
 RefusesEach words old new status =
-    (file text : List ℕ) (refusal : Refusal) → AsksFor words old file text → database_in file text ≡ Err refusal
+    (command : Command) → command_of words ≡ Some command → IsToBeRefused command old.files
     → ¬ Rose old.files.faults new.files.faults → (status ≡ Refused) ⊎ (status ≡ OutFault) ⊎ (status ≡ NoMemory)
 
 -- words that are no command are answered as such, but for the sink

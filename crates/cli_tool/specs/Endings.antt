@@ -1,16 +1,19 @@
 -- How a run may end: for each command and each status, what stands in the outside afterwards, and why.
-use Rattle.std.specs.Prelude.{◌≡◌, ◌⊎◌, ℕ, List, IsSomeAnd, IsOk, Err}
+use Rattle.std.specs.Prelude.{◌≡◌, ◌⊎◌, ℕ, List, Result, Err, IsSomeAnd, IsOk}
 use Rattle.std.specs.declared.option.Option.{Option}
 use Rattle.std.specs.declared.option.Option.TheVariants.{None, Some}
 use Rattle.std.specs.FinMap.{get, insert}
 use Rattle.can_model.specs.Refusal.{Refusal}
 use Rattle.cg_out.specs.Outside.{Folder, Rose, IfTold, IsTornWrite}
-use Rattle.cli_tool.specs.Command.{Command, generate_c_source, command_of}
+use Rattle.c_mean.specs.declared.item.Unit.{Unit as Whole}
+use Rattle.cli_tool.specs.Command.{Command, generate_c_source, check, command_of}
 use Rattle.cli_tool.specs.World.{FilesSeen, World, OfText, Calls, Reports, TearsReport}
 use Rattle.cli_tool.specs.FileName.{header_path}
 use Rattle.cli_tool.specs.HeaderInFile.{database_in}
 use Rattle.cli_tool.specs.HeaderOfFile.{IsHeaderOf}
-use Rattle.cli_tool.specs.Report.{usage_report, written_report, refusal_report}
+use Rattle.cli_tool.specs.Checked.{Fault, checked}
+use Rattle.cli_tool.specs.Reading.{FailsToRead, FailsToReadBoth, WantsMemory, WantsMemoryForBoth}
+use Rattle.cli_tool.specs.Report.{usage_report, written_report, refusal_report, fine_report, fault_report}
 use Rattle.cli_tool.specs.declared.status.Status.{Status}
 use Rattle.cli_tool.specs.declared.status.Status.TheVariants.{Done, Negative, Usage, Refused, FileFault, OutFault, NoMemory}
 
@@ -42,30 +45,46 @@ pub record RefusesText (file : List ℕ) (refusal : Refusal) (old new : FilesSee
   pub content : new.content ≡ old.content
   pub calls : Calls old new 1
 
--- the file was not read, since the outside failed or since no file has the name, and no file changed
-pub record FailsToRead (file : List ℕ) (old new : FilesSeen) : Type 0 where
-  pub cause : Rose old.faults new.faults ⊎ IsSomeAnd old.content (λ folder. get folder file ≡ None)
-  pub content : new.content ≡ old.content
-  pub calls : Calls old new 1
-
--- memory was wanting before anything was written
-pub record WantsMemory (old new : FilesSeen) : Type 0 where
-  pub content : new.content ≡ old.content
-  pub calls : Calls old new 1
-
 -- `generate_c_source FILE`
 abbrev pub GenerateEnds : List ℕ → World → World → Status → Type 0
 GenerateEnds file old new Done = WritesHeader file old.files new.files × Reports old.out new.out (written_report file)
 GenerateEnds file old new Refused =
     (refusal : Refusal) × RefusesText file refusal old.files new.files × Reports old.out new.out (refusal_report refusal)
 GenerateEnds file old new FileFault =
-    (FailsToRead file old.files new.files ⊎ TearsHeader file old.files new.files) × (new.out ≡ old.out)
+    (FailsToRead file 1 old.files new.files ⊎ TearsHeader file old.files new.files) × (new.out ≡ old.out)
 GenerateEnds file old new OutFault =
     (WritesHeader file old.files new.files × TearsReport old.out new.out (written_report file))
     ⊎ ((refusal : Refusal) × RefusesText file refusal old.files new.files × TearsReport old.out new.out (refusal_report refusal))
-GenerateEnds file old new NoMemory = WantsMemory old.files new.files × (new.out ≡ old.out)
+GenerateEnds file old new NoMemory = WantsMemory 1 old.files new.files × (new.out ≡ old.out)
 GenerateEnds file old new Negative = ⊥
 GenerateEnds file old new Usage = ⊥
+
+-- both texts were read, what they are as C is so, and no file changed
+pub record ChecksTexts (header source : List ℕ) (P : Result Whole Fault → Type 0) (old new : FilesSeen) : Type 0 where
+  pub cause : OfText old header (λ h. OfText old source (λ s. P (checked header h s)))
+  pub content : new.content ≡ old.content
+  pub calls : Calls old new 2
+
+-- they have no fault
+abbrev pub ChecksFine : List ℕ → List ℕ → FilesSeen → FilesSeen → Type 0
+ChecksFine header source old new = ChecksTexts header source IsOk old new
+
+-- they have this fault
+abbrev pub ChecksFault : List ℕ → List ℕ → Fault → FilesSeen → FilesSeen → Type 0
+ChecksFault header source fault old new = ChecksTexts header source (λ given. given ≡ Err fault) old new
+
+-- `check HEADER SOURCE`
+abbrev pub CheckEnds : List ℕ → List ℕ → World → World → Status → Type 0
+CheckEnds header source old new Done = ChecksFine header source old.files new.files × Reports old.out new.out fine_report
+CheckEnds header source old new Refused =
+    (fault : Fault) × ChecksFault header source fault old.files new.files × Reports old.out new.out (fault_report fault)
+CheckEnds header source old new FileFault = FailsToReadBoth header source old.files new.files × (new.out ≡ old.out)
+CheckEnds header source old new OutFault =
+    (ChecksFine header source old.files new.files × TearsReport old.out new.out fine_report)
+    ⊎ ((fault : Fault) × ChecksFault header source fault old.files new.files × TearsReport old.out new.out (fault_report fault))
+CheckEnds header source old new NoMemory = WantsMemoryForBoth old.files new.files × (new.out ≡ old.out)
+CheckEnds header source old new Negative = ⊥
+CheckEnds header source old new Usage = ⊥
 
 -- words that are no command: no file is touched, not even to read it
 abbrev pub UsageEnds : World → World → Status → Type 0
@@ -76,6 +95,7 @@ UsageEnds old new status = ⊥
 abbrev pub CommandEnds : Option Command → World → World → Status → Type 0
 CommandEnds None old new status = UsageEnds old new status
 CommandEnds (Some (generate_c_source file)) old new status = GenerateEnds file old new status
+CommandEnds (Some (check header source)) old new status = CheckEnds header source old new status
 
 -- how a run of these words may end
 abbrev pub Ends : List (List ℕ) → World → World → Status → Type 0

@@ -1,11 +1,15 @@
 pub mod FileName
 pub mod Command
+pub mod Words
 pub mod World
+pub mod Checked
 pub mod Report
 pub mod Status
 pub mod HeaderInFile
 pub mod HeaderOfFile
 pub mod Plan
+pub mod Verdict
+pub mod Reading
 pub mod Endings
 pub mod Causes
 pub mod Telling

@@ -1,11 +1,10 @@
 -- How the last steps of a run may end: a report, a refusal, and a header with its report.
 use Rattle.std.specs.Prelude.{◌≡◌, ◌⊎◌, ℕ, List}
 use Rattle.std.specs.FinMap.{insert}
-use Rattle.can_model.specs.Refusal.{Refusal}
 use Rattle.cg_out.specs.Outside.{Rose, IfTold, IsTornWrite}
 use Rattle.cli_tool.specs.World.{FilesSeen, SinkSeen, World, Calls, Reports, TearsReport}
 use Rattle.cli_tool.specs.FileName.{header_path}
-use Rattle.cli_tool.specs.Report.{written_report, refusal_report}
+use Rattle.cli_tool.specs.Report.{written_report}
 use Rattle.cli_tool.specs.declared.status.Status.{Status}
 use Rattle.cli_tool.specs.declared.status.Status.TheVariants.{Done, Refused, FileFault, OutFault, NoMemory}
 
@@ -14,10 +13,9 @@ abbrev pub Tells : SinkSeen → SinkSeen → List ℕ → Status → Status → 
 Tells old new report own status =
     ((status ≡ own) × Reports old new report) ⊎ ((status ≡ OutFault) × TearsReport old new report)
 
--- the refusal was told, or memory for its report was wanting
-abbrev pub TellsRefusal : SinkSeen → SinkSeen → Refusal → Status → Type 0
-TellsRefusal old new refusal status =
-    ((status ≡ NoMemory) × (new ≡ old)) ⊎ Tells old new (refusal_report refusal) Refused status
+-- the refusal was told by this report, or memory for it was wanting
+abbrev pub TellsRefusal : SinkSeen → SinkSeen → List ℕ → Status → Type 0
+TellsRefusal old new report status = ((status ≡ NoMemory) × (new ≡ old)) ⊎ Tells old new report Refused status
 
 -- the header stands in its file, and no other file changed
 pub record PutsHeader (file header : List ℕ) (old new : FilesSeen) : Type 0 where

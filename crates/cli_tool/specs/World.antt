@@ -24,6 +24,10 @@ pub record World : Type 0 where
 abbrev pub OfText : FilesSeen → List ℕ → (List ℕ → Type 0) → Type 0
 OfText files file P = IfSome files.content (λ folder. IsSomeAnd (get folder file) P)
 
+-- the contents are told, the file is there, and its text is so
+abbrev pub HasText : FilesSeen → List ℕ → (List ℕ → Type 0) → Type 0
+HasText files file P = IsSomeAnd files.content (λ folder. IsSomeAnd (get folder file) P)
+
 -- so many calls were made
 abbrev pub Calls : FilesSeen → FilesSeen → ℕ → Type 0
 Calls old new count = IfTold old.calls new.calls (λ m n. n ≡ m + count)

@@ -6,12 +6,15 @@
 //! ```
 #![tactic(auto)]
 
+mod checking;
 mod naming;
 mod planning;
+mod reading;
 mod reporting;
 mod running;
 mod status;
 mod word;
+mod words;
 
 pub use running::run;
 pub use status::Status;

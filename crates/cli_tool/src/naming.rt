@@ -20,7 +20,8 @@ fn up_to_last_of(mark: u8, bytes: &[u8]) -> usize
     end
 }
 
-fn base(path: &[u8]) -> &[u8]
+/// The name of a file without its folders.
+pub fn base(path: &[u8]) -> &[u8]
     ensures { result.now ≡ base_name path.now }
 {
     &path[up_to_last_of(b'/', path)..]

@@ -59,11 +59,19 @@ fn have_own_names(alloc: Global, messages: &[Message]) -> Result<bool, Memory>
     let mut at = messages.len();
     while at > 0 {
         at -= 1;
-        let name = identifier(alloc, messages[at].name.bytes())?;
-        let is_new = seen.insert(Vec::from_slice(alloc, name.bytes())?)?;
+        let key = identifier_bytes(alloc, &messages[at])?;
+        let is_new = seen.insert(key)?;
         if !is_new {
             return Ok(false);
         }
     }
     Ok(true)
+}
+
+/// The identifier of a message's name.
+fn identifier_bytes(alloc: Global, message: &Message) -> Result<Vec<u8>, Memory>
+    ensures { IfOk result (λ v. v.items ≡ identifier_of message.now.name) }
+{
+    let name = identifier(alloc, message.name.bytes())?;
+    Ok(Vec::from_slice(alloc, name.bytes())?)
 }

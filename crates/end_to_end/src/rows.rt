@@ -7,7 +7,7 @@ use std::test::Fail;
 
 const CAN: &[u8] = b"VERSION \"\"\nBU_: X\nBO_ 291 Ping: 2 X\nBO_ 2147483649 Pong: 0 X\n";
 
-const CAN_HEADER: &[u8] = b"/* Generated from a CAN database. Do not edit. */
+pub(super) const CAN_HEADER: &[u8] = b"/* Generated from a CAN database. Do not edit. */
 
 #ifndef CAN_H
 #define CAN_H
@@ -194,7 +194,8 @@ fn words_and_the_outside_fail(rt: HostRuntime) -> Result<(), Fail> {
 
 /// A text of so many blanks.
 fn blanks(alloc: Global, count: usize) -> Result<Text, Fail> {
-    Ok(Text::from(vec![in alloc; b' '; count]?))
+    let bytes = vec![in alloc; b' '; count]?;
+    Ok(Text::copy_of(alloc, bytes.as_slice())?)
 }
 
 #[test]

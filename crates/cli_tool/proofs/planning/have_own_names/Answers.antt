@@ -15,10 +15,10 @@ loop-at-preserved c =
     let m = c.index-messages-at.result in
     let at = c.loop-at.at in
     let xs = map f (drop at ms) in
-    let key = c.in_ok-from_slice.field-0 in
+    let key = c.in_ok-key.key in
     let lt : 0 < at = grind (arith, nat_tests) in
     let e = names-step f at ms m lt c.loop-at.invariant.within c.index-messages-at.is in
-    let named : key.items ≡ f m = c.in_ok-from_slice.ensures.items ∙ c.bytes-in-loop-at.ensures ∙ c.in_ok-name.ensures.exact ∙ ap identifier_of (c.bytes.ensures ∙ ap (λ (x : Message). x.name) (sym c.index-messages-at.is)) in
+    let named : key.items ≡ f m = c.in_ok-key.ensures in
     let new : list_any (bytes_eq (f m)) xs ≡ false =
     ap (λ (x : List ℕ). list_any (bytes_eq x) xs) (sym named) ∙ sym (c.loop-at.invariant.seen key) ∙ not_true c.in_ok-is_new.is_new _ c.in_ok-is_new.ensures.added c.if-not-is_new.false in
     record {
@@ -34,10 +34,10 @@ returns-then-not-is_new c =
     let m = c.index-messages-at.result in
     let at = c.loop-at.at in
     let xs = map f (drop at ms) in
-    let key = c.in_ok-from_slice.field-0 in
+    let key = c.in_ok-key.key in
     let lt : 0 < at = grind (arith, nat_tests) in
     let e = names-step f at ms m lt c.loop-at.invariant.within c.index-messages-at.is in
-    let named : key.items ≡ f m = c.in_ok-from_slice.ensures.items ∙ c.bytes-in-loop-at.ensures ∙ c.in_ok-name.ensures.exact ∙ ap identifier_of (c.bytes.ensures ∙ ap (λ (x : Message). x.name) (sym c.index-messages-at.is)) in
+    let named : key.items ≡ f m = c.in_ok-key.ensures in
     let old : list_any (bytes_eq (f m)) xs ≡ true =
     ap (λ (x : List ℕ). list_any (bytes_eq x) xs) (sym named) ∙ sym (c.loop-at.invariant.seen key) ∙ not_false c.in_ok-is_new.is_new _ c.in_ok-is_new.ensures.added c.if-not-is_new.true in
     sym (not_apart f at ms m xs e old)

@@ -1,0 +1,112 @@
+#!/usr/bin/env python3
+"""Times `cantoolc check` on generated pairs of C texts beside `gcc -std=c99 -fsyntax-only`.
+
+Prints of each pair the bytes of both texts, the seconds of a processor (the best of three) and the
+peak memory of each program, and how fast the time of `check` grows with the text: an exponent of 1
+is linear. Build the program first (./run). Where there is no gcc, its columns stay empty.
+"""
+import math
+import os
+import shutil
+import subprocess
+import sys
+import tempfile
+
+TOP = os.path.dirname(os.path.dirname(os.path.abspath(__file__)))
+PROGRAM = os.path.join(TOP, "crates", "cantoolc", "out", "cantoolc")
+RUNS = 3
+SIGNALS = ["engine_speed", "oil_temperature", "wheel_speed_front_left", "mode", "yaw_rate", "checksum"]
+INCLUDES = ["#include <stddef.h>", "#include <stdint.h>", "#include <string.h>", ""]
+HELPERS = [
+    "static uint8_t pack_left_shift_u16(uint16_t value, uint8_t shift, uint8_t mask)",
+    "{",
+    "    return (uint8_t)((uint8_t)(value << shift) & mask);",
+    "}",
+    "",
+    "static uint8_t pack_right_shift_u16(uint16_t value, uint8_t shift, uint8_t mask)",
+    "{",
+    "    return (uint8_t)((uint8_t)(value >> shift) & mask);",
+    "}",
+    "",
+]
+
+
+def message(number):
+    return f"vehicle_message_{number}", [SIGNALS[(number + i) % 6] for i in range(2 + number % 4)]
+
+
+def header(number):
+    name, signals = message(number)
+    lines = [f"#define {name.upper()}_LENGTH ({2 * len(signals)}u)", "", f"struct {name}_t {{"]
+    for signal in signals:
+        lines += ["    /**", "     * Scale: 1", "     * Offset: 0", "     */", f"    uint16_t {signal};", ""]
+    return lines + ["};", "", f"int {name}_pack(uint8_t *dst_p, const struct {name}_t *src_p, size_t size);", ""]
+
+
+def source(number):
+    name, signals = message(number)
+    lines = [f"int {name}_pack(", "    uint8_t *dst_p,", f"    const struct {name}_t *src_p,", "    size_t size)", "{"]
+    lines += [f"    uint16_t {signal};" for signal in signals]
+    lines += ["", f"    if (size < {name.upper()}_LENGTH) {{", "        return (-EINVAL);", "    }", ""]
+    lines += [f"    memset(dst_p, 0, {2 * len(signals)});", ""]
+    for i, signal in enumerate(signals):
+        lines += [
+            f"    {signal} = (uint16_t)src_p->{signal};",
+            f"    dst_p[{2 * i}] |= pack_left_shift_u16({signal}, 0u, 0xffu);",
+            f"    dst_p[{2 * i + 1}] |= pack_right_shift_u16({signal}, 8u, 0xffu);",
+        ]
+    return lines + ["", f"    return ({2 * len(signals)});", "}", ""]
+
+
+def write_pair(folder, limit):
+    """Two texts with as many messages as fit into so many bytes."""
+    front = ["#ifndef BENCH_H", "#define BENCH_H", ""] + INCLUDES + ["#ifndef EINVAL", "#define EINVAL 22", "#endif", ""]
+    size, messages = 0, 0
+    while size < limit:
+        size += sum(len(line) + 1 for line in header(messages) + source(messages))
+        messages += 1
+    with open(os.path.join(folder, "bench.h"), "w", encoding="ascii") as f:
+        f.write("\n".join(front) + "\n")
+        for number in range(messages):
+            f.write("\n".join(header(number)) + "\n")
+        f.write("#endif\n")
+    with open(os.path.join(folder, "bench.c"), "w", encoding="ascii") as f:
+        f.write("\n".join(INCLUDES + ['#include "bench.h"', ""] + HELPERS) + "\n")
+        for number in range(messages):
+            f.write("\n".join(source(number)) + "\n")
+    return sum(os.path.getsize(os.path.join(folder, name)) for name in ("bench.h", "bench.c"))
+
+
+def measure(words, folder):
+    used, peak = math.inf, 0
+    for _ in range(RUNS):
+        process = subprocess.Popen(words, cwd=folder, stdout=subprocess.DEVNULL)
+        _, status, usage = os.wait4(process.pid, 0)
+        if os.waitstatus_to_exitcode(status) != 0:
+            sys.exit(f"failed: {' '.join(words)}")
+        used = min(used, usage.ru_utime + usage.ru_stime)
+        peak = max(peak, usage.ru_maxrss * 1024)
+    return used, peak
+
+
+def main():
+    if not os.path.exists(PROGRAM):
+        sys.exit("build the program first: ./run generate_c_source examples/can.dbc")
+    gcc = shutil.which("gcc")
+    print(f"{'bytes':>10} {'check s':>10} {'check MB':>10} {'gcc s':>10} {'gcc MB':>10}")
+    rows = []
+    for limit in (1_000_000, 8_000_000):
+        with tempfile.TemporaryDirectory() as folder:
+            size = write_pair(folder, limit)
+            used, peak = measure([PROGRAM, "check", "bench.h", "bench.c"], folder)
+            beside = ("", "")
+            if gcc:
+                theirs, memory = measure([gcc, "-std=c99", "-fsyntax-only", "bench.c"], folder)
+                beside = (f"{theirs:.3f}", f"{memory / 1e6:.1f}")
+            print(f"{size:>10} {used:>10.3f} {peak / 1e6:>10.1f} {beside[0]:>10} {beside[1]:>10}")
+            rows.append((size, used))
+    (small, quick), (large, slow) = rows
+    print(f"exponent of time: {math.log(slow / quick) / math.log(large / small):.2f}")
+
+
+main()
