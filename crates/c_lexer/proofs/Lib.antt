@@ -1,5 +1,4 @@
 pub mod Lengths
 pub mod ConstantParts
 pub mod MarkTables
-pub mod OneLine
 pub mod Scan

@@ -5,7 +5,7 @@ use Rattle.std.proofs.lemmas.Bool.Decides.{nat_tests}
 use Rattle.c_mean.specs.Punctuator.{begins, first_in, threes, twos, ones, digraphs, mark_at}
 
 -- a spelling that stands in front is what stands in front
-pub begins-take : (x bs : List ℕ) → begins x bs ≡ true → x ≡ take (length x) bs
+begins-take : (x bs : List ℕ) → begins x bs ≡ true → x ≡ take (length x) bs
 begins-take [] bs h = refl
 begins-take (x ∷ xs) [] h = cc
 begins-take (x ∷ xs) (b ∷ bs) h =
@@ -16,7 +16,7 @@ begins-take (x ∷ xs) (b ∷ bs) h =
 abbrev pub HaveLength : ℕ → List (List ℕ) → Type 0
 HaveLength n xs = AllByRecursion (λ x. length x ≡ n) xs
 
-abbrev pub stands : List (List ℕ) → List ℕ → Bool
+abbrev stands : List (List ℕ) → List ℕ → Bool
 stands xs bs = list_any (λ m. begins m bs) xs
 
 first_or : (n : ℕ) (x bs : List ℕ) (r s : Bool) → length x ≡ n → (r ≡ true → x ≡ take (length x) bs) → cond r (Some x) (cond s (Some (take n bs)) None) ≡ cond (r || s) (Some (take n bs)) None

@@ -1,8 +1,5 @@
 -- What the reader of one lexeme gives, as the definition's.
-use Rattle.std.specs.Prelude.{Bool, true, false, nat_lt}
-use Rattle.c_mean.specs.declared.place.Place.{Place}
-use Rattle.c_mean.specs.declared.refusal.CFault.{CFault}
-use Rattle.c_mean.specs.declared.refusal.CFault.TheVariants.{Fault, Memory}
+use Rattle.std.specs.Prelude.{ℕ}
 use Rattle.c_mean.specs.Piece.{Lexeme as Defined, token, line_end, space, bad, Piece as DefinedPiece}
 use Rattle.c_lexer.specs.declared.lexeme.Lexeme.{Lexeme}
 use Rattle.c_lexer.specs.declared.lexeme.Lexeme.TheVariants.{Token, LineEnd, Space, Bad}
@@ -19,12 +16,7 @@ lexeme_of (Bad c) = bad c
 abbrev pub piece_of : Piece → DefinedPiece
 piece_of p = (lexeme_of p.lexeme, p.more)
 
--- white space or a comment
-abbrev pub is_space : Defined → Bool
-is_space space = true
-is_space l = false
-
--- whether a fault goes before a splice: one at an earlier byte, or want of memory
-abbrev pub goes_before : CFault → Place → Bool
-goes_before (Fault kind place) splice = nat_lt place.start splice.start
-goes_before Memory splice = true
+-- in how many bytes of a lexeme a splice is the first fault: in all, or in the first byte where the lexeme is a fault itself
+abbrev pub reach_of : Defined → ℕ → ℕ
+reach_of (bad c) n = 1
+reach_of l n = n

@@ -1,5 +1,5 @@
 //! The characters that tokens begin and go on with (ISO/IEC 9899:1999, 5.2.1 and 6.4).
-ghost use Rattle.std.specs.Prelude.{◌≡◌, not, ◌+◌, ◌^◌, ◌<◌, ◌≤◌, length, count_by, drop, take_while};
+ghost use Rattle.std.specs.Prelude.{◌≡◌, not, ◌+◌, ◌^◌, ◌<◌, ◌≤◌, length, drop, take_while};
 ghost use Rattle.c_mean.specs.Characters as characters;
 ghost use Rattle.c_mean.specs.Splice as splices;
 
@@ -59,14 +59,6 @@ pub fn line_length(bytes: &[u8]) -> usize
     ensures within { result ≤ length bytes.now }
 {
     bytes.iter().take_while(|b| !is_line_end(**b)).count()
-}
-
-/// How many lines end in the bytes.
-pub fn line_ends(bytes: &[u8]) -> usize
-    ensures value { result ≡ count_by characters.is_line_end bytes.now }
-    ensures within { result ≤ length bytes.now }
-{
-    bytes.iter().filter(|b| is_line_end(**b)).count()
 }
 
 /// The line of the byte behind one.

@@ -33,6 +33,7 @@ fn texts_have_their_tokens(rt: HostRuntime) -> Result<(), Fail> {
         ("a/*b*/c/*/d*/e/***/f", "word word word word", "a c e f"),
         ("a//b*/\nc//d", "word word", "a c"),
         ("? ?", "mark mark", "? ?"),
+        ("/*?*/?\"?\"?", "mark string mark", "? ? ?"),
         (".5+0x1F", "mark constant mark constant", ". # + #"),
         ("<<=<<<", "mark mark mark", "<<= << <"),
         (">>=>>>", "mark mark mark", ">>= >> >"),
@@ -140,6 +141,13 @@ fn texts_have_their_first_faults(rt: HostRuntime) -> Result<(), Fail> {
         ("\"\\n", CKind::BadToken, 1, 0, 1),
         ("/* ??", CKind::OpenComment, 1, 0, 2),
         ("a\\ @", CKind::Splice, 1, 1, 2),
+        ("@\\", CKind::BadToken, 1, 0, 1),
+        ("0xu\\", CKind::BadToken, 1, 0, 1),
+        ("a??", CKind::Splice, 1, 1, 2),
+        ("? ???", CKind::Splice, 1, 2, 3),
+        ("\"a??b\"", CKind::Splice, 1, 2, 3),
+        ("\n/* a\n?? */ @", CKind::Splice, 3, 6, 7),
+        ("a // ?\\?", CKind::Splice, 1, 6, 7),
     ] {
         let Err(fault) = read(rt.alloc(), text, false) else {
             return Err("a text with a fault has no tokens")?;
