@@ -106,7 +106,7 @@ parts-some after depth at j (t ∷ ts) e =
     parts-some-by after (depth == 0 && is_comma t.kind) depth at j t ts (first_outside is_comma (at + 1) (depth_after t.kind depth) ts) refl e
     (parts-some after (depth_after t.kind depth) (at + 1) j ts)
 
-at-drop : (n : ℕ) (xs : List Token) (x : Token) (rest : List Token) (d : Token) → drop n xs ≡ x ∷ rest → (get_or xs n d ≡ x) × (drop (suc n) xs ≡ rest)
+pub at-drop : (n : ℕ) (xs : List Token) (x : Token) (rest : List Token) (d : Token) → drop n xs ≡ x ∷ rest → (get_or xs n d ≡ x) × (drop (suc n) xs ≡ rest)
 at-drop zero xs x rest d e = rw e (refl, refl)
 at-drop (suc n) [] x rest d e = absurd (omega (arith, ap length e))
 at-drop (suc n) (y ∷ ys) x rest d e = at-drop n ys x rest d e

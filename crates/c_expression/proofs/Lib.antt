@@ -1,3 +1,5 @@
 pub mod Growing
 pub mod Commas
-pub mod Fronts
+pub mod FirstFault
+pub mod Growth
+pub mod Operands

@@ -3,8 +3,8 @@ use Rattle.std.specs.Prelude.{ℕ, ◌-◌, ◌≤◌, List, take, drop}
 use Rattle.c_mean.specs.declared.token.Token.{Token}
 use Rattle.c_mean.specs.TypeName.{kinds_of}
 use Rattle.c_mean.specs.ExpressionCut.{Before as Means, start, bracket, operand}
-use Rattle.c_expression.specs.declared.loosest.Before.{Before}
-use Rattle.c_expression.specs.declared.loosest.Before.TheVariants.{Start, Bracket, Operand}
+use Rattle.c_expression.specs.declared.joints.Before.{Before}
+use Rattle.c_expression.specs.declared.joints.Before.TheVariants.{Start, Bracket, Operand}
 
 abbrev pub Tokens : Type 0
 Tokens = List Token

@@ -1,5 +1,8 @@
+pub mod At
 pub mod Front
 pub mod Before
 pub mod Parts
 pub mod Stop
-pub mod Reads
+pub mod Prefixes
+pub mod Joint
+pub mod Operand

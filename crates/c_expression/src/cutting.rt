@@ -1,22 +1,28 @@
-//! Expressions, cut at their loosest operators.
-ghost use Rattle.std.specs.Prelude.{◌≡◌, ◌+◌, ◌-◌, ◌<◌, ◌==◌, [], Some, None, true, false, length, IfOk, IfErr, IfSome, IfNone};
+//! Expressions, read one operand after the other up to the first fault.
+//!
+//! Each token is looked at a fixed number of times for each bracket that is open round it.
+ghost use Rattle.std.specs.Prelude.{◌≡◌, ◌+◌, ◌-◌, ◌<◌, ◌==◌, ◌≤◌, [], ◌∷◌, Some, None, true, false, length, IfOk, IfErr, IfSome, IfNone};
 ghost use Rattle.c_mean.specs.declared.refusal.CKind.TheVariants.{Syntax, TooDeep};
 ghost use Rattle.c_mean.specs.declared.refusal.CFault.TheVariants.{Fault};
 ghost use Rattle.c_mean.specs.Refusal.{Gives};
 ghost use Rattle.c_mean.specs.declared.symbol.Bracket.TheVariants.{Round};
+ghost use Rattle.c_mean.specs.declared.expression.ExprKind.TheVariants as kind;
 ghost use Rattle.c_mean.specs.Brackets as brackets;
 ghost use Rattle.c_mean.specs.Operators as ops;
 ghost use Rattle.c_mean.specs.Symbol as symbols;
 ghost use Rattle.c_mean.specs.ExpressionCut as spec;
+ghost use Rattle.c_expression.specs.Joint.{IsTight, Grown, GrownAll, Faults};
+ghost use Rattle.c_expression.specs.Operand.{IsFrontOf};
 
-use crate::brackets::{Stop, closing, first_outside, opens};
-use crate::loosest::loosest;
-use crate::operators::{operator, prefix};
-use crate::parts::first_part;
+use crate::brackets::{closing, opens};
+use crate::joints::{Infix, first_joint, infix_at};
+use crate::operators::prefix;
+use crate::parts::{behind, first_part};
+use crate::prefixes::{PrefixKind, PrefixOp, with_prefixes};
 use crate::symbols::{callee, mark, name};
 use crate::type_names::spelled;
 use c_mean::{Bracket, CFault, CKind, Expr, ExprKind, Place, Punctuator, Token, TokenKind};
-use cg_out::{Boxed, List, Text};
+use cg_out::{Boxed, List, Memory, Text};
 use std::alloc::Global;
 
 /// A part that no form of the grammar fits begins here.
@@ -66,46 +72,45 @@ fn closed_at<'a>(inner: &'a [Token], rest: &[Token]) -> Option<(&'a [Token], Pla
     }
 }
 
-/// The expression that the tokens are, by the plain cut. So many brackets may be open in it, and
-/// `after` is the place of the token behind it.
+/// The expression that the tokens are, or the first fault in it. So many brackets may be open in it,
+/// and `after` is the place of the token behind it.
 #[cycle(cutting)]
-pub fn plain_cut(alloc: Global, tokens: &[Token], room: u32, after: Place) -> Result<Expr, CFault>
+pub fn cut(alloc: Global, tokens: &[Token], room: u32, after: Place) -> Result<Expr, CFault>
     ensures { Gives (λ e. e) result (spec.cut room tokens.now after) }
 {
-    match loosest(tokens) {
-        Some(i) => at_operator(alloc, &tokens[..i], &tokens[i..], room, after),
-        None => alone(alloc, tokens, room, after),
-    }
+    let (tree, _) = climb(alloc, tokens, 0, room, after)?;
+    Ok(tree)
 }
 
+/// An expression up to the first operator that is looser than the level, and how many tokens it
+/// takes.
 #[cycle(cutting)]
-fn at_operator(
+fn climb(
     alloc: Global,
-    left: &[Token],
-    rest: &[Token],
+    tokens: &[Token],
+    least: u32,
     room: u32,
     after: Place,
-) -> Result<Expr, CFault>
-    ensures { Gives (λ e. e) result (spec.at_operator spec.cut room left.now rest.now after) }
+) -> Result<(Expr, usize), CFault>
+    requires { least ≤ 9 }
+    ensures ok { IfOk result (λ r. GrownAll room least after tokens.now r.1 r.0) }
+    ensures err { Faults result (spec.cut room tokens.now after) }
 {
-    match rest {
-        [] => Err(syntax(after)),
-        [token, right @ ..] => {
-            let left = plain_cut(alloc, left, room, token.place)?;
-            let right = plain_cut(alloc, right, room, after)?;
-            binary(alloc, token, left, right)
-        }
+    let (mut left, mut count) = operand(alloc, tokens, room, after)?;
+    while let Some(infix) = infix_at(tokens, count, least) {
+        let rest = behind(tokens, count + 1);
+        let (right, more) = climb(alloc, rest, infix.level + 1, room, after)?;
+        left = binary(alloc, infix, left, right)?;
+        count = count + 1 + more;
     }
+    Ok((left, count))
 }
 
-/// Two operands at the operator between them.
-pub fn binary(alloc: Global, token: &Token, left: Expr, right: Expr) -> Result<Expr, CFault>
-    ensures { Gives (λ e. e) result (spec.binary_of (ops.operator token.now.kind) token.now.place left right) }
+/// Two operands and the operator between them.
+fn binary(alloc: Global, at: Infix, left: Expr, right: Expr) -> Result<Expr, Memory>
+    ensures { IfOk result (λ e. e ≡ spec.node at.place (kind.Binary at.op left right)) }
 {
-    let place = token.place;
-    let Some((_, op)) = operator(&token.kind) else {
-        return Err(syntax(place));
-    };
+    let Infix { op, place, .. } = at;
     let left = Boxed::new(alloc, left)?;
     let right = Boxed::new(alloc, right)?;
     Ok(Expr {
@@ -114,25 +119,91 @@ pub fn binary(alloc: Global, token: &Token, left: Expr, right: Expr) -> Result<E
     })
 }
 
-/// Tokens without an operator between two operands.
+/// The first operand, and how many tokens it takes.
+#[cycle(cutting)]
+fn operand(
+    alloc: Global,
+    tokens: &[Token],
+    room: u32,
+    after: Place,
+) -> Result<(Expr, usize), CFault>
+    ensures ok { IfOk result (λ r. Grown room 9 after tokens.now r.1 r.0) }
+    ensures err { Faults result (spec.cut room tokens.now after) }
+{
+    match first_joint(tokens) {
+        Some(end) => {
+            let tree = alone(alloc, &tokens[..end], room, tokens[end].place)?;
+            Ok((tree, end))
+        }
+        None => {
+            let tree = alone(alloc, tokens, room, after)?;
+            Ok((tree, tokens.len()))
+        }
+    }
+}
+
+/// An operand that is all of the tokens.
 #[cycle(cutting)]
 fn alone(alloc: Global, tokens: &[Token], room: u32, after: Place) -> Result<Expr, CFault>
-    ensures { Gives (λ e. e) result (spec.alone spec.cut room tokens.now after) }
+    requires { IsTight 9 tokens.now }
+    ensures { Gives (λ e. e) result (spec.cut room tokens.now after) }
+{
+    let mut ops = Vec::new(alloc);
+    let mut left = tokens;
+    loop {
+        match front_of(alloc, left, room, after)? {
+            Front::Prefix(op, more) => {
+                ops.push(op)?;
+                left = behind(left, more + 1);
+            }
+            Front::Whole(tree) => return Ok(with_prefixes(alloc, ops, tree)?),
+        }
+    }
+}
+
+/// What stands at the front of an operand.
+#[derive(Drop)]
+pub enum Front {
+    /// A prefix operator or a cast, and how many of its tokens follow the first.
+    Prefix(PrefixOp, usize),
+    /// All of it.
+    Whole(Expr),
+}
+
+#[cycle(cutting)]
+fn front_of(alloc: Global, tokens: &[Token], room: u32, after: Place) -> Result<Front, CFault>
+    ensures ok { IfOk result (λ f. IsFrontOf f room tokens.now after) }
+    ensures err { Faults result (spec.alone spec.cut room tokens.now after) }
 {
     let [token, rest @ ..] = tokens else {
         return Err(syntax(after));
     };
     let place = token.place;
     if let Some(op) = prefix(&token.kind) {
-        let operand = Boxed::new(alloc, plain_cut(alloc, rest, room, after)?)?;
-        return Ok(Expr {
-            place,
-            kind: ExprKind::Unary { op, operand },
-        });
+        let kind = PrefixKind::Sign(op);
+        return Ok(Front::Prefix(PrefixOp { place, kind }, 0));
     }
+    if is_round(&token.kind) {
+        return round(alloc, token, rest, room, after);
+    }
+    Ok(Front::Whole(primary(alloc, token, rest, room, after)?))
+}
+
+/// What stands without a prefix operator, and not in brackets.
+#[cycle(cutting)]
+fn primary(
+    alloc: Global,
+    token: &Token,
+    rest: &[Token],
+    room: u32,
+    after: Place,
+) -> Result<Expr, CFault>
+    requires { brackets.is_bracket Round (brackets.opens token.now.kind) ≡ false }
+    ensures { Gives (λ e. e) result (spec.primary spec.cut room token.now.kind token.now rest.now after) }
+{
+    let place = token.place;
     match &token.kind {
         TokenKind::Word(_) | TokenKind::Memset => named(alloc, token, rest, room),
-        TokenKind::Mark(_) if is_round(&token.kind) => round(alloc, place, rest, room, after),
         TokenKind::Constant(constant) if rest.is_empty() => Ok(Expr {
             place,
             kind: ExprKind::Constant(*constant),
@@ -169,7 +240,7 @@ fn named(alloc: Global, token: &Token, rest: &[Token], room: u32) -> Result<Expr
             let Some((inner, close)) = closed(behind) else {
                 return Err(syntax(place));
             };
-            let args = plain_arguments(alloc, inner, inside(room, second.place)?, close)?;
+            let args = arguments(alloc, inner, inside(room, second.place)?, close)?;
             let function = Text::copy_of(alloc, function)?;
             Ok(Expr {
                 place,
@@ -183,7 +254,7 @@ fn named(alloc: Global, token: &Token, rest: &[Token], room: u32) -> Result<Expr
             let Some((inner, close)) = closed(behind) else {
                 return Err(syntax(place));
             };
-            let index = plain_cut(alloc, inner, inside(room, second.place)?, close)?;
+            let index = cut(alloc, inner, inside(room, second.place)?, close)?;
             let index = Boxed::new(alloc, index)?;
             let base = Text::copy_of(alloc, base)?;
             Ok(Expr {
@@ -237,38 +308,38 @@ fn member(alloc: Global, token: &Token, second: &Token, behind: &[Token]) -> Res
 #[cycle(cutting)]
 fn round(
     alloc: Global,
-    place: Place,
-    tokens: &[Token],
+    token: &Token,
+    rest: &[Token],
     room: u32,
     after: Place,
-) -> Result<Expr, CFault>
-    ensures { Gives (λ e. e) result (spec.round spec.cut room place (brackets.closing_from 0 1 tokens.now) tokens.now after) }
+) -> Result<Front, CFault>
+    requires opens { brackets.is_bracket Round (brackets.opens token.now.kind) ≡ true }
+    requires bare { ops.prefix token.now.kind ≡ None }
+    ensures ok { IfOk result (λ f. IsFrontOf f room (token.now ∷ rest.now) after) }
+    ensures err { Faults result (spec.alone spec.cut room (token.now ∷ rest.now) after) }
 {
-    let Some(at) = closing(tokens) else {
+    let place = token.place;
+    let Some(at) = closing(rest) else {
         return Err(syntax(place));
     };
-    if let Some(to) = spelled(&tokens[..at]) {
+    if let Some(to) = spelled(&rest[..at]) {
         inside(room, place)?;
-        let operand = plain_cut(alloc, &tokens[at + 1..], room, after)?;
-        let operand = Boxed::new(alloc, operand)?;
-        return Ok(Expr {
-            place,
-            kind: ExprKind::Cast { to, operand },
-        });
+        let kind = PrefixKind::Cast(to);
+        return Ok(Front::Prefix(PrefixOp { place, kind }, at + 1));
     }
-    let Some((inner, close)) = closed_at(&tokens[..at], &tokens[at..]) else {
+    let Some((inner, close)) = closed_at(&rest[..at], &rest[at..]) else {
         return Err(syntax(place));
     };
-    let inner = plain_cut(alloc, inner, inside(room, place)?, close)?;
-    Ok(Expr {
+    let inner = cut(alloc, inner, inside(room, place)?, close)?;
+    Ok(Front::Whole(Expr {
         place,
         kind: ExprKind::Bracket(Boxed::new(alloc, inner)?),
-    })
+    }))
 }
 
-/// The arguments between the brackets of a call.
+/// The arguments between the brackets of a call, or the first fault in them.
 #[cycle(cutting)]
-pub fn plain_arguments(
+pub fn arguments(
     alloc: Global,
     tokens: &[Token],
     room: u32,
@@ -280,7 +351,7 @@ pub fn plain_arguments(
     let mut left = some_unless_empty(tokens);
     while let Some(tokens) = left {
         let part = first_part(tokens, after);
-        args.push(plain_cut(alloc, part.tokens, room, part.after)?)?;
+        args.push(cut(alloc, part.tokens, room, part.after)?)?;
         left = part.rest;
     }
     Ok(args)

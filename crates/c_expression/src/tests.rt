@@ -1,5 +1,4 @@
 use super::*;
-use crate::climbing::{whole, whole_arguments};
 use c_mean::{CFault, CKind, Constant, Expr, ExprKind, Place, Spelled, Token, TokenKind};
 use cg_out::{List, Memory, Text};
 use std::alloc::{AllocError, Global};
@@ -24,20 +23,34 @@ fn tokens_of(alloc: Global, words: &str) -> Result<List<Token>, Memory> {
             [b'a'..=b'z' | b'_', ..] => TokenKind::Word(Text::copy_of(alloc, word.as_bytes())?),
             _ => TokenKind::Mark(Text::copy_of(alloc, word.as_bytes())?),
         };
-        let place = Place {
-            header: false,
-            line,
-            start: 0,
-            end: 0,
-        };
-        tokens.push(Token {
-            kind,
-            place,
-            fresh: false,
-        })?;
+        tokens.push(token(kind, line))?;
         line = line.saturating_add(1);
     }
     Ok(tokens)
+}
+
+/// The place behind all tokens.
+fn end() -> Place {
+    Place {
+        header: false,
+        line: 99,
+        start: 0,
+        end: 0,
+    }
+}
+
+fn token(kind: TokenKind, line: u32) -> Token {
+    let place = Place {
+        header: false,
+        line,
+        start: 0,
+        end: 0,
+    };
+    Token {
+        kind,
+        place,
+        fresh: false,
+    }
 }
 
 /// Writes a tree with each of its parts in square brackets; round ones are those of the text.
@@ -120,6 +133,11 @@ fn trees_of_expressions(rt: HostRuntime) -> Result<(), Fail> {
             "Plain(UnsignedLongLong)[Minus[p->f]]",
         ),
         ("~ ! + a", "Complement[Not[Plus[a]]]"),
+        (
+            "- ~ ! ( size_t ) - ( unsigned char ) x - ( int ) ! y",
+            "[Minus[Complement[Not[Size[Minus[Plain(UnsignedChar)[x]]]]]] Subtract Plain(Int)[Not[y]]]",
+        ),
+        ("- ( size_t ) ( - a )", "Minus[Size[(Minus[a])]]"),
         ("p [ i + 1 ] != NULL", "[p[[i Add 1]] NotEqual NULL]"),
         ("f ( )", "f;"),
         (
@@ -129,8 +147,8 @@ fn trees_of_expressions(rt: HostRuntime) -> Result<(), Fail> {
         ("memset ( p , 0 , 8 )", "memset,p,0,8;"),
     ] {
         let tokens = tokens_of(alloc, words)?;
-        let Some(tree) = whole(alloc, tokens.items(), 64)? else {
-            return Err("not read by climbing")?;
+        let Ok(tree) = cut(alloc, tokens.items(), 64, end()) else {
+            return Err("refused")?;
         };
         let mut shown = Vec::new(alloc);
         show(alloc, &tree, &mut shown)?;
@@ -139,15 +157,33 @@ fn trees_of_expressions(rt: HostRuntime) -> Result<(), Fail> {
     Ok(())
 }
 
+/// A long run of prefix operators, the first of which is the outermost.
+#[test]
+fn run_of_signs(rt: HostRuntime) -> Result<(), Fail> {
+    let alloc = rt.alloc();
+    let mut tokens = List::new(alloc);
+    for line in 0..2_000_u32 {
+        tokens.push(token(TokenKind::Mark(Text::copy_of(alloc, b"-")?), line))?;
+    }
+    tokens.push(token(TokenKind::Null, 2_000))?;
+    let Ok(whole) = cut(alloc, tokens.items(), 0, end()) else {
+        return Err("refused")?;
+    };
+    let mut tree = &whole;
+    for line in 0..2_000_u32 {
+        assert_eq!(rt; tree.place.line, line);
+        let ExprKind::Unary { operand, .. } = &tree.kind else {
+            return Err("no prefix operator")?;
+        };
+        tree = operand.get();
+    }
+    assert!(rt; matches!(&tree.kind, ExprKind::Null));
+    Ok(())
+}
+
 #[test]
 fn faults_and_their_places(rt: HostRuntime) -> Result<(), Fail> {
     let alloc = rt.alloc();
-    let after = Place {
-        header: false,
-        line: 99,
-        start: 0,
-        end: 0,
-    };
     for (words, room, expected) in [
         ("a + < b", 64, Some((CKind::Syntax, 2))),
         ("a -", 64, Some((CKind::Syntax, 99))),
@@ -156,9 +192,15 @@ fn faults_and_their_places(rt: HostRuntime) -> Result<(), Fail> {
         ("( ( a ) )", 2, None),
         ("( p [ ( a ) ] )", 2, Some((CKind::TooDeep, 3))),
         ("f ( ( size_t ) a )", 1, Some((CKind::TooDeep, 2))),
+        ("- ( a ) b", 64, Some((CKind::Syntax, 1))),
+        ("a + b c + d e", 64, Some((CKind::Syntax, 2))),
+        ("f ( a , b c , d e )", 64, Some((CKind::Syntax, 4))),
+        ("a - ( b - ( c + ) ) - d e", 64, Some((CKind::Syntax, 8))),
+        ("- ( a ( ) + ( ( b ) ) ) * 2", 2, Some((CKind::Syntax, 1))),
+        ("( int ] - 1", 64, Some((CKind::Syntax, 3))),
     ] {
         let tokens = tokens_of(alloc, words)?;
-        let found = match cut(alloc, tokens.items(), room, after) {
+        let found = match cut(alloc, tokens.items(), room, end()) {
             Ok(_) => None,
             Err(CFault::Fault { kind, place }) => Some((kind, place.line)),
             Err(CFault::Memory) => return Err("out of memory")?,
@@ -166,11 +208,7 @@ fn faults_and_their_places(rt: HostRuntime) -> Result<(), Fail> {
         assert_eq!(rt; found, expected, "of {words}");
     }
     let tokens = tokens_of(alloc, "a , f ( b , c ) , d")?;
-    let Some(args) = whole_arguments(alloc, tokens.items(), 1)? else {
-        return Err("not read by climbing")?;
-    };
-    assert_eq!(rt; args.items().len(), 3);
-    let Ok(args) = arguments(alloc, tokens.items(), 1, after) else {
+    let Ok(args) = arguments(alloc, tokens.items(), 1, end()) else {
         return Err("arguments refused")?;
     };
     assert_eq!(rt; args.items().len(), 3);

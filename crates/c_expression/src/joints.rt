@@ -1,13 +1,15 @@
-//! The operator at which an expression is cut.
-ghost use Rattle.std.specs.Prelude.{◌≡◌, ◌+◌, ◌<◌, ◌≤◌, ◌^◌, [], ◌∷◌, length, drop, IfSome, ℕ};
+//! The operators between the operands of an expression.
+ghost use Rattle.std.specs.Prelude.{◌≡◌, ◌+◌, ◌<◌, ◌≤◌, ◌^◌, [], ◌∷◌, length, drop, IfSome, IfNone, ℕ};
+ghost use Rattle.c_expression.specs.At.{IsInfixAt, Stops};
 ghost use Rattle.c_mean.specs.ExpressionCut as spec;
 ghost use Rattle.c_expression.specs.Before.{Tokens, before_of, IsFrom};
+ghost use Rattle.c_expression.specs.Joint.{cuts_here, IsTight, IsFirstJoint};
 
 use crate::brackets::depth_after;
 use crate::operators::operator;
 use crate::symbols::{mark, name};
 use crate::type_names::{is_type_word, spelled};
-use c_mean::{Punctuator, Token, TokenKind};
+use c_mean::{BinaryOp, Place, Punctuator, Token, TokenKind};
 
 /// What stands before a token.
 #[derive(Clone, Copy, Debug, PartialEq, Eq)]
@@ -76,54 +78,51 @@ fn behind_round(tokens: &[Token], index: usize, before: Before) -> Before
     }
 }
 
-fn is_cut(level: u32, depth: usize, before: Before, token: &Token) -> bool
-    ensures { (ts : Tokens) (index : ℕ) → result ≡ spec.is_cut level depth (before_of ts index before) token.now }
+/// Whether an operator stands there between two operands, outside brackets.
+fn is_joint(depth: usize, before: Before, token: &Token) -> bool
+    ensures { (ts : Tokens) (index : ℕ) → result ≡ cuts_here depth (before_of ts index before) token.now }
 {
-    match operator(&token.kind) {
-        Some((found, _)) => depth == 0 && before == Before::Operand && found == level,
-        None => false,
-    }
+    depth == 0 && before == Before::Operand && operator(&token.kind).is_some()
 }
 
-/// How many tokens stand before the last operator of a level outside brackets.
-fn last_operator(level: u32, tokens: &[Token]) -> Option<usize>
-    ensures value { result ≡ spec.last_from level 0 0 spec.start tokens.now }
+/// How many tokens stand before the first operator between two operands, outside brackets.
+pub fn first_joint(tokens: &[Token]) -> Option<usize>
+    ensures none { IfNone result (IsTight 9 tokens.now) }
+    ensures some { IfSome result (λ i. IsFirstJoint i tokens.now) }
     ensures within { IfSome result (λ i. i < length tokens.now) }
 {
-    let mut found = None;
     let mut depth = 0;
     let mut before = Before::Start;
     for (i, token) in tokens.iter().enumerate() {
-        if is_cut(level, depth, before, token) {
-            found = Some(i);
+        if is_joint(depth, before, token) {
+            return Some(i);
         }
         depth = depth_after(&token.kind, depth);
         before = behind(tokens, i, token, before);
     }
-    found
-}
-
-/// The levels of operators, the loosest first.
-const LEVELS: [u32; 9] = [0, 1, 2, 3, 4, 5, 6, 7, 8];
-
-fn loosest_among(levels: &[u32], tokens: &[Token]) -> Option<usize>
-    ensures value { result ≡ spec.loosest_of levels.now tokens.now }
-    ensures within { IfSome result (λ i. i < length tokens.now) }
-{
-    for level in levels {
-        if let Some(i) = last_operator(*level, tokens) {
-            return Some(i);
-        }
-    }
     None
 }
 
-/// How many tokens stand before the last operator, outside brackets, of the loosest level there
-/// is.
-#[tactic(auto, unfolding(c_mean::specs::ExpressionCut::loosest))]
-pub fn loosest(tokens: &[Token]) -> Option<usize>
-    ensures value { result ≡ spec.loosest tokens.now }
-    ensures within { IfSome result (λ i. i < length tokens.now) }
+/// An operator between two operands.
+#[derive(Clone, Copy)]
+pub struct Infix {
+    pub level: u32,
+    pub op: BinaryOp,
+    pub place: Place,
+}
+
+/// The operator at an index, if there is one of this level or a tighter one.
+pub fn infix_at(tokens: &[Token], at: usize, least: u32) -> Option<Infix>
+    ensures some { IfSome result (λ i. IsInfixAt at tokens.now i.level i.op i.place) }
+    ensures within { IfSome result (λ i. (at < length tokens.now) × (least ≤ i.level) × (i.level < 9)) }
+    ensures none { IfNone result (Stops least (drop at tokens.now)) }
 {
-    loosest_among(&LEVELS, tokens)
+    let token = tokens.get(at)?;
+    let (level, op) = operator(&token.kind)?;
+    if level < least {
+        None
+    } else {
+        let place = token.place;
+        Some(Infix { level, op, place })
+    }
 }

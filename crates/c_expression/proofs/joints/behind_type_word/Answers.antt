@@ -2,7 +2,7 @@ use Rattle.std.proofs.Common.{ap, subst}
 use Rattle.c_mean.specs.ExpressionCut.{bracket}
 use Rattle.c_expression.specs.Before.{IsFrom}
 use Rattle.c_expression.proofs.Growing.{kinds-next}
-use Rattle.c_expression.proofs.loosest.behind_type_word.Goals as goal
+use Rattle.c_expression.proofs.joints.behind_type_word.Goals as goal
 
 pub returns-in-Bracket-clause-value : goal.returns-in-Bracket-clause-value
 returns-in-Bracket-clause-value c =
