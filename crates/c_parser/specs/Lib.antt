@@ -2,3 +2,4 @@ pub mod Form
 pub mod Head
 pub mod Label
 pub mod Matching
+pub mod Pending

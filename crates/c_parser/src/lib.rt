@@ -13,6 +13,7 @@ mod declarations;
 mod forms;
 mod items;
 mod matching;
+mod pending;
 mod simple;
 mod statements;
 

@@ -5,19 +5,18 @@ ghost use Rattle.c_mean.specs.Brackets as brackets;
 ghost use Rattle.c_mean.specs.Sequence.{all_read};
 ghost use Rattle.c_mean.specs.StatementCut as spec;
 ghost use Rattle.c_parser.specs.Label.{IsLabel};
+ghost use Rattle.c_parser.specs.Pending.{plain_step};
 ghost use Rattle.c_mean.specs.Symbol.{is_colon, is_semicolon};
-ghost use Rattle.c_mean.specs.declared.statement.StmtKind.TheVariants as kind;
 
 use crate::case_value::case_value;
+use crate::pending::{ascend, descend};
 use crate::simple::simple;
 use c_expression::{
     Stop, behind, closing, cut, first_outside, inside, is_round, is_type_word, keyword, mark,
     opens, syntax,
 };
-use c_mean::{
-    Bracket, CFault, Expr, Keyword, Place, Punctuator, Stmt, StmtKind, SwitchPart, Token,
-};
-use cg_out::{Boxed, List};
+use c_mean::{Bracket, CFault, Keyword, Place, Punctuator, Stmt, StmtKind, SwitchPart, Token};
+use cg_out::List;
 use std::alloc::Global;
 
 /// The statement that the tokens begin with, and how many of its tokens follow the first. Whether
@@ -34,29 +33,38 @@ fn statement(
     ensures value { Gives (λ s. s) result (spec.read may_break room tokens.now after) }
     ensures within { IfOk result (λ s. s.1 < length tokens.now) }
 {
-    statement_step(alloc, tokens, may_break, room, after)
+    let mut pending = Vec::new(alloc);
+    let mut at = 0;
+    loop {
+        let front = descend(alloc, &mut pending, tokens, at, room, after)?;
+        let left = behind(tokens, front);
+        let (made, more) = plain_statement(alloc, left, may_break, room, after)?;
+        let end = front + more;
+        match ascend(alloc, &mut pending, made, behind(tokens, end + 1))? {
+            Some(whole) => return Ok((whole, end)),
+            None => at = end + 2,
+        }
+    }
 }
 
-/// By the first token.
+/// A statement that begins with no `if`, by its first token.
 #[cycle(statement)]
-fn statement_step(
+fn plain_statement(
     alloc: Global,
     tokens: &[Token],
     may_break: bool,
     room: u32,
     after: Place,
 ) -> Result<(Stmt, usize), CFault>
-    ensures value { Gives (λ s. s) result (spec.read_step spec.read may_break room tokens.now after) }
+    ensures value { Gives (λ s. s) result (plain_step spec.read may_break room tokens.now after) }
     ensures within { IfOk result (λ s. s.1 < length tokens.now) }
 {
     let [first, rest @ ..] = tokens else {
         return Err(syntax(after));
     };
     let place = first.place;
-    match keyword(&first.kind) {
-        Some(Keyword::If) => return if_statement(alloc, place, rest, may_break, room, after),
-        Some(Keyword::Switch) => return switch_statement(alloc, place, rest, room, after),
-        _ => {}
+    if matches!(keyword(&first.kind), Some(Keyword::Switch)) {
+        return switch_statement(alloc, place, rest, room, after);
     }
     if matches!(opens(&first.kind), Some(Bracket::Brace)) {
         let Some(end) = closing(rest) else {
@@ -130,59 +138,6 @@ pub fn statements(
         left = behind(left, more + 1);
     }
     Ok(list)
-}
-
-/// From the tokens behind the `if`.
-#[cycle(statement)]
-fn if_statement(
-    alloc: Global,
-    place: Place,
-    tokens: &[Token],
-    may_break: bool,
-    room: u32,
-    after: Place,
-) -> Result<(Stmt, usize), CFault>
-    ensures value { Gives (λ s. s) result (spec.if_open spec.read may_break room place tokens.now after) }
-    ensures within { IfOk result (λ s. s.1 ≤ length tokens.now) }
-{
-    let [open, rest @ ..] = tokens else {
-        return Err(syntax(place));
-    };
-    if !is_round(&open.kind) {
-        return Err(syntax(place));
-    }
-    let Some(end) = closing(rest) else {
-        return Err(syntax(place));
-    };
-    let condition = cut(
-        alloc,
-        &rest[..end],
-        inside(room, open.place)?,
-        rest[end].place,
-    )?;
-    let rest = behind(rest, end + 1);
-    let (yes, more) = statement(alloc, rest, may_break, room, after)?;
-    let yes = Boxed::new(alloc, yes)?;
-    let rest = behind(rest, more + 1);
-    let count = end + 2 + 1 + more;
-    let [next, rest @ ..] = rest else {
-        return Ok((if_of(place, condition, yes, None), count));
-    };
-    if !matches!(keyword(&next.kind), Some(Keyword::Else)) {
-        return Ok((if_of(place, condition, yes, None), count));
-    }
-    let (no, more) = statement(alloc, rest, may_break, room, after)?;
-    let no = Boxed::new(alloc, no)?;
-    Ok((if_of(place, condition, yes, Some(no)), count + 2 + more))
-}
-
-fn if_of(place: Place, condition: Expr, yes: Boxed<Stmt>, no: Option<Boxed<Stmt>>) -> Stmt
-    ensures { result ≡ spec.stmt place (kind.If condition yes no) }
-{
-    Stmt {
-        place,
-        kind: StmtKind::If { condition, yes, no },
-    }
 }
 
 /// From the tokens behind the `switch`.

@@ -1,15 +1,40 @@
-use Rattle.std.proofs.Common.{◌+◌, ◌-◌, ◌<◌, length, take, drop, subst, Ok, refl, arith, length-drop}
+use Rattle.std.proofs.Common.{◌+◌, ◌-◌, ◌<◌, ◌≤◌, length, take, drop, IfNone, subst, Ok, refl, sym, ap, ◌∙◌, arith, length-drop}
 use Rattle.std.proofs.lemmas.Result.{err_from_is_err_and}
 use Rattle.c_mean.specs.declared.statement.SwitchPart.TheVariants.{Statement}
 use Rattle.c_mean.specs.Sequence.{all_read, ◌>>=◌}
 use Rattle.c_parser.specs.Label.{IsLabel}
 use Rattle.c_mean.specs.StatementCut.{read, each, part}
-use Rattle.c_mean.proofs.StatementSteps.{read-step}
+use Rattle.c_parser.specs.Pending.{Ascends, around}
+use Rattle.c_parser.proofs.Waiting.{reads_on, plain_fault}
 use Rattle.c_parser.proofs.Loops.{first_of, first-each, first-part, first_and_rest, goes_on, fails}
 use Rattle.c_parser.proofs.statements.+statement.Goals as goal
 
-pub statement-returns : goal.statement-returns
-statement-returns t c = record { value = rw (read-step c.args.may_break c.args.room c.args.tokens.now c.args.after) c.statement_step.ensures.value; within = c.statement_step.ensures.within }
+pub statement-returns-in_err-made-clause-value : goal.statement-returns-in_err-made-clause-value
+statement-returns-in_err-made-clause-value t c =
+    let p = err_from_is_err_and c.from_residual-in_err-made.result c.from_residual-in_err-made.ensures.1 in
+    rw (p.1, p.2) (plain_fault c.in_err-made.field-0.0 c.args.may_break c.args.room c.args.tokens.now c.args.after c.loop-pending.pending.items c.descend.new.pending.items c.loop-pending.at c.in_ok-front.front
+    c.behind-left.result.now c.in_ok-front.ensures.value c.behind-left.ensures c.in_ok-front.ensures.plain c.in_err-made.ensures.value c.loop-pending.invariant.whole)
+
+pub statement-returns-in-Some-clause-value : goal.statement-returns-in-Some-clause-value
+statement-returns-in-Some-clause-value t c =
+    let ascends = subst (λ o. Ascends o c.descend.new.pending.items c.ascend.new.pending.items c.in_ok-made.made c.behind.result.now) c.in-Some.is c.in_ok-whole.ensures.value in
+    reads_on c.args.may_break c.args.room c.args.tokens.now c.args.after c.loop-pending.pending.items c.descend.new.pending.items c.loop-pending.at c.in_ok-front.front c.behind-left.result.now
+    c.in_ok-made.made c.in_ok-made.more c.in_ok-front.ensures.value c.behind-left.ensures c.in_ok-front.ensures.plain c.in_ok-made.ensures.value c.loop-pending.invariant.whole
+    ∙ ascends (around c.args.may_break c.args.room c.args.tokens.now c.args.after) (c.in_ok-front.front + c.in_ok-made.more) c.behind.ensures
+
+pub statement-loop-pending-preserved : goal.statement-loop-pending-preserved
+statement-loop-pending-preserved t c =
+    let end = c.in_ok-front.front + c.in_ok-made.more in
+    let ascends = subst (λ o. Ascends o c.descend.new.pending.items c.ascend.new.pending.items c.in_ok-made.made c.behind.result.now) c.in-None.is c.in_ok-whole.ensures.value in
+    let next = subst (λ o. IfNone o (1 ≤ length c.behind.result.now)) c.in-None.is c.in_ok-whole.ensures.within in
+    record {
+      within = omega (arith, next, ap length c.behind.ensures, length-drop (end + 1) c.args.tokens.now);
+      whole = sym (
+          reads_on c.args.may_break c.args.room c.args.tokens.now c.args.after c.loop-pending.pending.items c.descend.new.pending.items c.loop-pending.at c.in_ok-front.front c.behind-left.result.now
+          c.in_ok-made.made c.in_ok-made.more c.in_ok-front.ensures.value c.behind-left.ensures c.in_ok-front.ensures.plain c.in_ok-made.ensures.value c.loop-pending.invariant.whole
+          ∙ ascends (around c.args.may_break c.args.room c.args.tokens.now c.args.after) end c.behind.ensures
+          );
+    }
 
 pub statements-loop-left-preserved : goal.statements-loop-left-preserved
 statements-loop-left-preserved t c =

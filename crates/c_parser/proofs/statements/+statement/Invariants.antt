@@ -1,17 +1,24 @@
-use Rattle.std.proofs.Common.{◌≡◌, ◌+◌, ◌*◌, ◌≤◌, length}
+use Rattle.std.proofs.Common.{◌≡◌, ◌+◌, ◌*◌, ◌≤◌, ◌-◌, length}
 use Rattle.c_mean.specs.Sequence.{all_read}
 use Rattle.c_mean.specs.StatementCut.{read, each, part}
 use Rattle.c_expression.specs.Front.{with_front}
+use Rattle.c_parser.specs.Pending.{around, read_from, resumed}
 use Rattle.c_parser.proofs.statements.+statement.Given as goal
 
 abbrev pub decreases-statement : goal.decreases-statement
 decreases-statement l = 4 * length l.tokens.now + 3
 
-abbrev pub decreases-statement_step : goal.decreases-statement_step
-decreases-statement_step l = 4 * length l.tokens.now + 2
+abbrev pub invariant-statement-loop-pending : goal.invariant-statement-loop-pending
+invariant-statement-loop-pending l = record {
+  within : l.at ≤ length l.tokens;
+  whole : resumed (around l.may_break l.room l.tokens l.after) l.pending.items (read_from (around l.may_break l.room l.tokens l.after) l.at) ≡ read l.may_break l.room l.tokens l.after;
+}
 
-abbrev pub decreases-if_statement : goal.decreases-if_statement
-decreases-if_statement l = 4 * length l.tokens.now + 4
+abbrev pub decreases-statement-loop-pending : goal.decreases-statement-loop-pending
+decreases-statement-loop-pending l = length l.tokens - l.at
+
+abbrev pub decreases-plain_statement : goal.decreases-plain_statement
+decreases-plain_statement l = 4 * length l.tokens.now + 2
 
 abbrev pub decreases-switch_statement : goal.decreases-switch_statement
 decreases-switch_statement l = 4 * length l.tokens.now + 4
