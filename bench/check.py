@@ -3,14 +3,15 @@
 
 Prints of each pair the bytes of both texts, the seconds of a processor (the best of three) and the
 peak memory of each program, and how fast the time of `check` grows with the text: an exponent of 1
-is linear. Build the program first (./run). Where there is no gcc, its columns stay empty.
+is linear. Then the same of texts with a fault at the end of one long call, without gcc. Build the
+program first (./run). Where there is no gcc, its columns stay empty.
 """
-import math
 import os
 import shutil
-import subprocess
 import sys
 import tempfile
+
+from measuring import exponent, measure
 
 TOP = os.path.dirname(os.path.dirname(os.path.abspath(__file__)))
 PROGRAM = os.path.join(TOP, "crates", "cantoolc", "out", "cantoolc")
@@ -77,36 +78,48 @@ def write_pair(folder, limit):
     return sum(os.path.getsize(os.path.join(folder, name)) for name in ("bench.h", "bench.c"))
 
 
-def measure(words, folder):
-    used, peak = math.inf, 0
-    for _ in range(RUNS):
-        process = subprocess.Popen(words, cwd=folder, stdout=subprocess.DEVNULL)
-        _, status, usage = os.wait4(process.pid, 0)
-        if os.waitstatus_to_exitcode(status) != 0:
-            sys.exit(f"failed: {' '.join(words)}")
-        used = min(used, usage.ru_utime + usage.ru_stime)
-        peak = max(peak, usage.ru_maxrss * 1024)
-    return used, peak
+def write_damaged(folder, arguments):
+    """A source that is one call with so many arguments, of which the last is two names."""
+    with open(os.path.join(folder, "bench.h"), "w", encoding="ascii"):
+        pass
+    path = os.path.join(folder, "bench.c")
+    with open(path, "w", encoding="ascii") as f:
+        f.write("int f(void) { return f(" + "a - b, " * arguments + "a b); }\n")
+    return os.path.getsize(path)
+
+
+def whole_pairs():
+    """Of pairs without a fault: the bytes and the time, printed beside gcc's."""
+    gcc = shutil.which("gcc")
+    for limit in (1_000_000, 8_000_000):
+        with tempfile.TemporaryDirectory() as folder:
+            size = write_pair(folder, limit)
+            ours = measure([PROGRAM, "check", "bench.h", "bench.c"], folder, RUNS)
+            beside = ("", "")
+            if gcc:
+                theirs = measure([gcc, "-std=c99", "-fsyntax-only", "bench.c"], folder, RUNS)
+                beside = (f"{theirs.used:.3f}", f"{theirs.peak / 1e6:.1f}")
+        print(f"{size:>10} {ours.used:>10.3f} {ours.peak / 1e6:>10.1f} {beside[0]:>10} {beside[1]:>10}")
+        yield size, ours.used
+
+
+def damaged_pairs():
+    """Of pairs with a fault in the last of many arguments: the bytes and the time."""
+    for arguments in (100_000, 1_000_000):
+        with tempfile.TemporaryDirectory() as folder:
+            size = write_damaged(folder, arguments)
+            ours = measure([PROGRAM, "check", "bench.h", "bench.c"], folder, RUNS, status=3)
+        print(f"{size:>10} {ours.used:>10.3f} {ours.peak / 1e6:>10.1f}   damaged")
+        yield size, ours.used
 
 
 def main():
     if not os.path.exists(PROGRAM):
         sys.exit("build the program first: ./run generate_c_source examples/can.dbc")
-    gcc = shutil.which("gcc")
     print(f"{'bytes':>10} {'check s':>10} {'check MB':>10} {'gcc s':>10} {'gcc MB':>10}")
-    rows = []
-    for limit in (1_000_000, 8_000_000):
-        with tempfile.TemporaryDirectory() as folder:
-            size = write_pair(folder, limit)
-            used, peak = measure([PROGRAM, "check", "bench.h", "bench.c"], folder)
-            beside = ("", "")
-            if gcc:
-                theirs, memory = measure([gcc, "-std=c99", "-fsyntax-only", "bench.c"], folder)
-                beside = (f"{theirs:.3f}", f"{memory / 1e6:.1f}")
-            print(f"{size:>10} {used:>10.3f} {peak / 1e6:>10.1f} {beside[0]:>10} {beside[1]:>10}")
-            rows.append((size, used))
-    (small, quick), (large, slow) = rows
-    print(f"exponent of time: {math.log(slow / quick) / math.log(large / small):.2f}")
+    for pairs in (whole_pairs, damaged_pairs):
+        (small, quick), (large, slow) = pairs()
+        print(f"exponent of time: {exponent(small, quick, large, slow):.2f}")
 
 
 main()

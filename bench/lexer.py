@@ -8,13 +8,13 @@ and that beside the text for each token; and how fast the time grows with the te
 linear. `expand` cuts the text first, and takes it as a source with an empty header. With
 `--keep FOLDER` that folder is made or used again, and left.
 """
-import math
 import os
 import shutil
 import subprocess
 import sys
 import tempfile
-import time
+
+from measuring import exponent, measure
 
 TOP = os.path.dirname(os.path.dirname(os.path.abspath(__file__)))
 CRATES = ["cg_out", "c_mean", "c_lexer", "c_pre"]
@@ -196,25 +196,6 @@ def build(folder):
     return program
 
 
-def measure(program, word, path):
-    """The best time, the least time of a processor, the peak memory in bytes, and what the program counted.
-
-    The peak is at least this script's own, some 15 MB, which is why no text is kept here.
-    """
-    best, used, peak = math.inf, math.inf, 0
-    for _ in range(RUNS):
-        start = time.perf_counter()
-        process = subprocess.Popen([program, word, path], stdout=subprocess.PIPE)
-        out = process.stdout.read()
-        _, status, usage = os.wait4(process.pid, 0)
-        best = min(best, time.perf_counter() - start)
-        used = min(used, usage.ru_utime + usage.ru_stime)
-        peak = max(peak, usage.ru_maxrss * 1024)
-        if os.waitstatus_to_exitcode(status) != 0:
-            sys.exit(f"the program failed at {word} {path}")
-    return best, used, peak, [int(word) for word in out.split()]
-
-
 def main():
     with tempfile.TemporaryDirectory() as scratch:
         folder = scratch
@@ -228,7 +209,8 @@ def main():
             path = os.path.join(scratch, f"bench{size}.c")
             write_text(path, size)
             for word in ("read", "tokens", "expand"):
-                seconds, used, peak, (length, tokens, left, macros) = measure(program, word, path)
+                seconds, used, peak, output = measure([program, word, path], scratch, RUNS)
+                length, tokens, left, macros = (int(count) for count in output.split())
                 beside = f"{(peak - length) / tokens:.1f}" if tokens else ""
                 row = [word, length, tokens, left, macros, f"{seconds:.3f}", f"{used:.3f}", f"{length / used / 1e6:.1f}"]
                 row += [f"{used / length * 1e9:.2f}", f"{peak / 1e6:.1f}", beside]
@@ -236,7 +218,7 @@ def main():
                 rows.append((word, length, used))
     for word in ("tokens", "expand"):
         (small, quick), (large, slow) = [(length, used) for w, length, used in rows if w == word]
-        print(f"exponent of time of {word}: {math.log(slow / quick) / math.log(large / small):.2f}")
+        print(f"exponent of time of {word}: {exponent(small, quick, large, slow):.2f}")
 
 
 main()
