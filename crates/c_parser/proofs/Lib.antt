@@ -1,3 +1,4 @@
 pub mod Loops
 pub mod Stack
 pub mod Waiting
+pub mod Signed

@@ -3,3 +3,4 @@ pub mod Head
 pub mod Label
 pub mod Matching
 pub mod Pending
+pub mod Signs

@@ -35,6 +35,7 @@ fn texts_without_a_fault_are_ok(rt: HostRuntime) -> Result<(), Fail> {
     for source in [
         b"int f(void) { return 10 - 4 - 3; }".as_slice(),
         b"int f(void) { if (1) if (0) return 1; else return 2; return 3; }",
+        b"int f(int v) { switch (v) { case - + (- 1): return 1; default: return 2; } return 3; }",
         b"#include \"h.h\"\n",
     ] {
         checked(&rt, rt.alloc(), b"", source, Status::Done, b"ok\n")?;
@@ -49,6 +50,11 @@ fn the_first_fault_is_told(rt: HostRuntime) -> Result<(), Fail> {
             b"".as_slice(),
             b"int f(void) { return 1 }".as_slice(),
             b"refused 48 Syntax source line 1\n".as_slice(),
+        ),
+        (
+            b"",
+            b"int f(int v) { switch (v) { case - (1)\n: case -\n- v: return 1; } return 0; }",
+            b"refused 48 Syntax source line 3\n",
         ),
         (
             b"",

@@ -4,5 +4,5 @@ use Rattle.c_parser.proofs.case_value.+value.Given as goal
 abbrev pub decreases-case_value : goal.decreases-case_value
 decreases-case_value l = 2 * length l.tokens.now + 1
 
-abbrev pub decreases-value_step : goal.decreases-value_step
-decreases-value_step l = 2 * length l.tokens.now
+abbrev pub decreases-unsigned : goal.decreases-unsigned
+decreases-unsigned l = 2 * length l.tokens.now
