@@ -11,12 +11,12 @@ import shutil
 import sys
 import tempfile
 
+from generated import pack, signals
 from measuring import exponent, measure
 
 TOP = os.path.dirname(os.path.dirname(os.path.abspath(__file__)))
 PROGRAM = os.path.join(TOP, "crates", "cantoolc", "out", "cantoolc")
 RUNS = 3
-SIGNALS = ["engine_speed", "oil_temperature", "wheel_speed_front_left", "mode", "yaw_rate", "checksum"]
 INCLUDES = ["#include <stddef.h>", "#include <stdint.h>", "#include <string.h>", ""]
 HELPERS = [
     "static uint8_t pack_left_shift_u16(uint16_t value, uint8_t shift, uint8_t mask)",
@@ -33,30 +33,19 @@ HELPERS = [
 
 
 def message(number):
-    return f"vehicle_message_{number}", [SIGNALS[(number + i) % 6] for i in range(2 + number % 4)]
+    return f"vehicle_message_{number}", signals(number)
 
 
 def header(number):
-    name, signals = message(number)
-    lines = [f"#define {name.upper()}_LENGTH ({2 * len(signals)}u)", "", f"struct {name}_t {{"]
-    for signal in signals:
+    name, names = message(number)
+    lines = [f"#define {name.upper()}_LENGTH ({2 * len(names)}u)", "", f"struct {name}_t {{"]
+    for signal in names:
         lines += ["    /**", "     * Scale: 1", "     * Offset: 0", "     */", f"    uint16_t {signal};", ""]
     return lines + ["};", "", f"int {name}_pack(uint8_t *dst_p, const struct {name}_t *src_p, size_t size);", ""]
 
 
 def source(number):
-    name, signals = message(number)
-    lines = [f"int {name}_pack(", "    uint8_t *dst_p,", f"    const struct {name}_t *src_p,", "    size_t size)", "{"]
-    lines += [f"    uint16_t {signal};" for signal in signals]
-    lines += ["", f"    if (size < {name.upper()}_LENGTH) {{", "        return (-EINVAL);", "    }", ""]
-    lines += [f"    memset(dst_p, 0, {2 * len(signals)});", ""]
-    for i, signal in enumerate(signals):
-        lines += [
-            f"    {signal} = (uint16_t)src_p->{signal};",
-            f"    dst_p[{2 * i}] |= pack_left_shift_u16({signal}, 0u, 0xffu);",
-            f"    dst_p[{2 * i + 1}] |= pack_right_shift_u16({signal}, 8u, 0xffu);",
-        ]
-    return lines + ["", f"    return ({2 * len(signals)});", "}", ""]
+    return pack(*message(number))
 
 
 def write_pair(folder, limit):

@@ -14,6 +14,7 @@ import subprocess
 import sys
 import tempfile
 
+from generated import pack, signals
 from measuring import exponent, measure
 
 TOP = os.path.dirname(os.path.dirname(os.path.abspath(__file__)))
@@ -93,21 +94,19 @@ fn main(rt: HostRuntime) -> ExitCode {
 """
 
 MESSAGES = ["abs_data", "engine_status", "gateway_wakeup", "motor_torque", "steering_angle_sensor"]
-SIGNALS = ["engine_speed", "oil_temperature", "wheel_speed_front_left", "mode", "yaw_rate", "checksum"]
 
 
 def message(number):
-    name = f"{MESSAGES[number % 5]}_{number}"
-    return f"vehicle_{name}", [SIGNALS[(number + i) % 6] for i in range(2 + number % 4)]
+    return f"vehicle_{MESSAGES[number % 5]}_{number}", signals(number)
 
 
 def defines(number):
-    name, signals = message(number)
+    name, names = message(number)
     upper = name.upper()
     lines = [
         f"/* Message {name} */",
         f"#define {upper}_FRAME_ID (0x{number & 0x7FF:x}u)",
-        f"#define {upper}_LENGTH ({2 * len(signals)}u)",
+        f"#define {upper}_LENGTH ({2 * len(names)}u)",
         f"#define {upper}_IS_EXTENDED ({number % 2})",
         "",
         "/**",
@@ -117,30 +116,13 @@ def defines(number):
         " */",
         f"struct {name}_t {{",
     ]
-    for signal in signals:
+    for signal in names:
         lines += ["    /**", "     * Range: -", "     * Scale: 1", "     * Offset: 0", "     */", f"    uint16_t {signal};", ""]
     return lines + ["};", ""]
 
 
 def functions(number):
-    name, signals = message(number)
-    lines = [
-        f"int {name}_pack(",
-        "    uint8_t *dst_p,",
-        f"    const struct {name}_t *src_p,",
-        "    size_t size)",
-        "{",
-    ]
-    lines += [f"    uint16_t {signal};" for signal in signals]
-    lines += ["", f"    if (size < {name.upper()}_LENGTH) {{", "        return (-EINVAL);", "    }", ""]
-    lines += [f"    memset(dst_p, 0, {2 * len(signals)});", ""]
-    for i, signal in enumerate(signals):
-        lines += [
-            f"    {signal} = (uint16_t)src_p->{signal};",
-            f"    dst_p[{2 * i}] |= pack_left_shift_u16({signal}, 0u, 0xffu);",
-            f"    dst_p[{2 * i + 1}] |= pack_right_shift_u16({signal}, 8u, 0xffu);",
-        ]
-    return lines + ["", f"    return ({2 * len(signals)});", "}", ""]
+    return pack(*message(number))
 
 
 def joined(lines):
