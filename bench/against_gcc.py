@@ -1,0 +1,148 @@
+#!/usr/bin/env python3
+"""Asks gcc of the C texts that `cantoolc check` accepts.
+
+Makes functions of the subset at random, damages most of them by a token or two, and checks each. gcc
+must parse every text that is ok, names and types aside; one thing is known and left out: `check` takes a
+declaration as a branch of an `if`, and C99 does not. Prints the texts on which the two differ and how
+many were ok, and ends with 1 where there is one. Build the program first (./run). It wants gcc.
+
+    against_gcc.py [TEXTS [SEED]]
+"""
+import os
+import random
+import shutil
+import subprocess
+import sys
+import tempfile
+
+TOP = os.path.dirname(os.path.dirname(os.path.abspath(__file__)))
+PROGRAM = os.path.join(TOP, "crates", "cantoolc", "out", "cantoolc")
+FRONT = """#include <stdbool.h>
+#include <stddef.h>
+#include <stdint.h>
+#include <string.h>
+struct s { int a; uint8_t b; };
+"""
+TYPES = ["int", "unsigned char", "unsigned", "long", "unsigned long long", "uint8_t", "int16_t", "bool", "size_t", "signed char"]
+OPERANDS = ["v", "w", "p->a", "p->b", "q[0]", "1", "2u", "0x1fUL", "3ll", "NULL"]
+BINARY = ["||", "&&", "|", "^", "&", "==", "!=", "<", ">", "<=", ">=", "<<", ">>", "+", "-"]
+ASSIGN = ["=", "|=", "&=", "^=", "+=", "-=", "<<=", ">>="]
+DAMAGE = "( ) { } [ ] ; , : -> = - ! ~ << * v 1 int uint8_t void const static struct if else switch case default break return".split()
+# gcc's words for a text that is no C, whatever its names mean
+NO_C = ("expected", "before", "stray")
+
+
+def arguments(rng, depth):
+    words = []
+    for i in range(rng.randint(0, 3)):
+        words += ([","] if i else []) + expression(rng, depth)
+    return words
+
+
+def expression(rng, depth):
+    if depth == 0:
+        return [rng.choice(OPERANDS)]
+    inner = expression(rng, depth - 1)
+    return rng.choice(
+        [
+            lambda: [rng.choice(OPERANDS)],
+            lambda: inner + [rng.choice(BINARY)] + expression(rng, depth - 1),
+            lambda: [rng.choice("-+~!")] + inner,
+            lambda: ["(", rng.choice(TYPES), ")"] + inner,
+            lambda: ["("] + inner + [")"],
+            lambda: ["q", "["] + inner + ["]"],
+            lambda: ["g", "("] + arguments(rng, depth - 1) + [")"],
+        ]
+    )()
+
+
+def simple(rng, may_break):
+    forms = [
+        lambda: [rng.choice(["v", "q[1]", "p->a"]), rng.choice(ASSIGN)] + expression(rng, 2),
+        lambda: ["return"] + rng.choice([[], expression(rng, 2)]),
+        lambda: [],
+        lambda: ["g", "("] + arguments(rng, 1) + [")"],
+        lambda: ["(", "void", ")", "v"],
+        lambda: ["memset", "(", "q", ","] + expression(rng, 1) + [",", "8", ")"],
+    ]
+    if may_break:
+        forms.append(lambda: ["break"])
+    return rng.choice(forms)() + [";"]
+
+
+def declaration(rng):
+    name = f"x{rng.randint(0, 99999)}"
+    return [rng.choice(TYPES), name] + rng.choice([[], ["="] + expression(rng, 2)]) + [";"]
+
+
+def statement(rng, depth, may_break):
+    if depth == 0:
+        return simple(rng, may_break)
+    return rng.choice(
+        [
+            lambda: simple(rng, may_break),
+            lambda: ["if", "("] + expression(rng, 2) + [")"] + statement(rng, depth - 1, may_break),
+            lambda: ["if", "("] + expression(rng, 2) + [")"] + statement(rng, depth - 1, may_break) + ["else"] + statement(rng, depth - 1, may_break),
+            lambda: ["{"] + statements(rng, depth - 1, may_break) + ["}"],
+            lambda: ["switch", "("] + expression(rng, 1) + [")", "{"] + parts(rng, depth - 1) + ["}"],
+        ]
+    )()
+
+
+def statements(rng, depth, may_break):
+    words = []
+    for _ in range(rng.randint(0, 3)):
+        words += declaration(rng) if rng.random() < 0.2 else statement(rng, depth, may_break)
+    return words
+
+
+def parts(rng, depth):
+    words = []
+    for _ in range(rng.randint(0, 3)):
+        words += rng.choice([["default"], ["case", rng.choice(["1", "-1", "(2)", "- + 3", "-(4u)"])]]) + [":"]
+        for _ in range(rng.randint(0, 2)):
+            words += statement(rng, depth, True)
+    return words
+
+
+def damaged(rng, words):
+    words = list(words)
+    for _ in range(rng.choice([0, 1, 1, 2])):
+        at = rng.randrange(len(words))
+        words[at : at + rng.randint(0, 1)] = rng.choice([[], [rng.choice(DAMAGE)]])
+    return words
+
+
+def shown_by_gcc(gcc, folder):
+    """What shows gcc that the text is no C, but for a declaration where a statement should stand."""
+    run = subprocess.run([gcc, "-std=c99", "-fsyntax-only", "-w", "s.c"], cwd=folder, capture_output=True, text=True, check=False)
+    errors = [line for line in run.stderr.splitlines() if "error:" in line and any(word in line for word in NO_C)]
+    types = {word for spelling in TYPES for word in spelling.split()} | {"_Bool"}
+    return [line for line in errors if line.split("before ")[-1].strip(" ‘’'") not in types]
+
+
+def main():
+    gcc = shutil.which("gcc")
+    if not gcc or not os.path.exists(PROGRAM):
+        sys.exit("it wants gcc, and the program: ./run generate_c_source examples/can.dbc")
+    texts, seed = (int(word) for word in (sys.argv[1:] + ["2000", "1"][len(sys.argv) - 1 :]))
+    rng = random.Random(seed)
+    head = "int f ( int v , struct s * p , uint8_t * q ) {".split()
+    accepted, differ = 0, 0
+    with tempfile.TemporaryDirectory() as folder:
+        open(os.path.join(folder, "h.h"), "w", encoding="ascii").close()
+        for _ in range(texts):
+            words = damaged(rng, head + statements(rng, 3, False) + ["}"])
+            with open(os.path.join(folder, "s.c"), "w", encoding="ascii") as f:
+                f.write(FRONT + " ".join(words) + "\n")
+            status = subprocess.run([PROGRAM, "check", "h.h", "s.c"], cwd=folder, stdout=subprocess.DEVNULL, check=False).returncode
+            errors = shown_by_gcc(gcc, folder) if status == 0 else []
+            accepted += status == 0
+            if errors or status not in (0, 3):
+                differ += 1
+                print(f"status {status}, gcc: {errors[:1]}\n    {' '.join(words)}")
+    print(f"{texts} texts, {accepted} of them ok, gcc differs on {differ}")
+    sys.exit(1 if differ else 0)
+
+
+main()
