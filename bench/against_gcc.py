@@ -28,6 +28,7 @@ OPERANDS = ["v", "w", "p->a", "p->b", "q[0]", "1", "2u", "0x1fUL", "3ll", "NULL"
 BINARY = ["||", "&&", "|", "^", "&", "==", "!=", "<", ">", "<=", ">=", "<<", ">>", "+", "-"]
 ASSIGN = ["=", "|=", "&=", "^=", "+=", "-=", "<<=", ">>="]
 DAMAGE = "( ) { } [ ] ; , : -> = - ! ~ << * v 1 int uint8_t void const static struct if else switch case default break return".split()
+WORDS_OF_TYPES = {word for spelling in TYPES for word in spelling.split()} | {"_Bool"}
 # gcc's words for a text that is no C, whatever its names mean
 NO_C = ("expected", "before", "stray")
 
@@ -113,12 +114,18 @@ def damaged(rng, words):
     return words
 
 
-def shown_by_gcc(gcc, folder):
-    """What shows gcc that the text is no C, but for a declaration where a statement should stand."""
+def is_branch(text, line):
+    """Whether gcc's error stands at a declaration that is a branch of an `if`."""
+    column = int(line.split(":")[2])
+    word = line.split("before ")[-1].strip(" ‘’'")
+    return word in WORDS_OF_TYPES and text[: column - 1].rstrip().endswith((")", "else"))
+
+
+def shown_by_gcc(gcc, folder, text):
+    """What shows gcc that the last line of the text is no C, but for what is known."""
     run = subprocess.run([gcc, "-std=c99", "-fsyntax-only", "-w", "s.c"], cwd=folder, capture_output=True, text=True, check=False)
     errors = [line for line in run.stderr.splitlines() if "error:" in line and any(word in line for word in NO_C)]
-    types = {word for spelling in TYPES for word in spelling.split()} | {"_Bool"}
-    return [line for line in errors if line.split("before ")[-1].strip(" ‘’'") not in types]
+    return [line for line in errors if not is_branch(text, line)]
 
 
 def main():
@@ -132,15 +139,15 @@ def main():
     with tempfile.TemporaryDirectory() as folder:
         open(os.path.join(folder, "h.h"), "w", encoding="ascii").close()
         for _ in range(texts):
-            words = damaged(rng, head + statements(rng, 3, False) + ["}"])
+            text = " ".join(damaged(rng, head + statements(rng, 3, False) + ["}"]))
             with open(os.path.join(folder, "s.c"), "w", encoding="ascii") as f:
-                f.write(FRONT + " ".join(words) + "\n")
+                f.write(FRONT + text + "\n")
             status = subprocess.run([PROGRAM, "check", "h.h", "s.c"], cwd=folder, stdout=subprocess.DEVNULL, check=False).returncode
-            errors = shown_by_gcc(gcc, folder) if status == 0 else []
+            errors = shown_by_gcc(gcc, folder, text) if status == 0 else []
             accepted += status == 0
             if errors or status not in (0, 3):
                 differ += 1
-                print(f"status {status}, gcc: {errors[:1]}\n    {' '.join(words)}")
+                print(f"status {status}, gcc: {errors[:1]}\n    {text}")
     print(f"{texts} texts, {accepted} of them ok, gcc differs on {differ}")
     sys.exit(1 if differ else 0)
 

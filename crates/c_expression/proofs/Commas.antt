@@ -2,7 +2,7 @@
 use Rattle.std.proofs.Common.{◌≡◌, ℕ, zero, suc, ◌+◌, ◌==◌, ◌&&◌, Bool, true, false, if◌then◌else◌, List, [], ◌∷◌, length, take, drop, get_or, Option, Some, None, refl, sym, ap, ◌∙◌, arith, add-one}
 use Rattle.std.proofs.lemmas.Bool.{false≢true}
 use Rattle.std.proofs.lemmas.Bool.Decides.{nat_tests}
-use Rattle.std.proofs.lemmas.Option.{none-some}
+use Rattle.std.proofs.lemmas.Option.{none-some, same_Some}
 use Rattle.c_mean.specs.declared.token.Token.{Token}
 use Rattle.c_mean.specs.declared.place.Place.{Place}
 use Rattle.c_mean.specs.declared.symbol.Punctuator.{Punctuator}
@@ -71,14 +71,10 @@ parts-none after depth at (t ∷ ts) e =
     parts-none-by after (depth == 0 && is_comma t.kind) at t ts (first_outside is_comma (at + 1) (depth_after t.kind depth) ts) (parts after (depth_after t.kind depth) ts) e
     (parts-none after (depth_after t.kind depth) (at + 1) ts)
 
-abbrev or_zero : Option ℕ → ℕ
-or_zero (Some n) = n
-or_zero None = 0
-
-is-zero : (n : ℕ) → (n == 0) ≡ true → n ≡ 0
+pub is-zero : (n : ℕ) → (n == 0) ≡ true → n ≡ 0
 is-zero n h = grind (arith, nat_tests)
 
-both : (a b : Bool) → (a && b) ≡ true → (a ≡ true) × (b ≡ true)
+pub both : (a b : Bool) → (a && b) ≡ true → (a ≡ true) × (b ≡ true)
 both true b h = (refl, h)
 both false b h = absurd (false≢true h)
 
@@ -87,7 +83,7 @@ parts-some-by : (after : Place) (b : Bool) (depth at j : ℕ) (t : Token) (ts : 
 parts-some-by after true depth at j t ts more c e ih =
     let two = both (depth == 0) (is_comma t.kind) c in
     let flat : depth ≡ 0 = is-zero depth two.0 in
-    let at_is : at ≡ j = ap or_zero e in
+    let at_is : at ≡ j = same_Some at j e in
     record {
       count = 0;
       comma = t;

@@ -3,7 +3,7 @@ use Rattle.std.proofs.Common.{◌≡◌, ℕ, zero, suc, ◌+◌, ◌==◌, ◌<
 use Rattle.std.specs.Prelude.{◌&&◌}
 use Rattle.std.proofs.lemmas.Bool.{false≢true}
 use Rattle.std.proofs.lemmas.Bool.Decides.{nat_tests}
-use Rattle.std.proofs.lemmas.Option.{none-some}
+use Rattle.std.proofs.lemmas.Option.{none-some, same_Some}
 use Rattle.std.proofs.Math.Seq.{take-append_seam, drop-append_seam}
 use Rattle.c_mean.specs.declared.place.Place.{Place}
 use Rattle.c_mean.specs.declared.token.Token.{Token}
@@ -17,6 +17,7 @@ use Rattle.c_mean.specs.ExpressionPart.{depth_over, before_over}
 use Rattle.c_mean.proofs.ExpressionSteps.{cut-some}
 use Rattle.c_mean.proofs.ExpressionTokens.{last_from-append, depth_over-append, before_over-append, operator-flat, operator-level}
 use Rattle.c_expression.specs.Joint.{IsJoint}
+use Rattle.c_expression.proofs.Commas.{both, is-zero}
 
 or_else-assoc : (x y z : Option Refusal) → or_else (or_else x y) z ≡ or_else x (or_else y z)
 or_else-assoc (Some x) y z = refl
@@ -36,29 +37,21 @@ record Split (depth : ℕ) (before : Before) (at j : ℕ) (ts : List Token) : Ty
   leveled : Leveled
   operates : operator t.kind ≡ Some leveled
 
-pub and-both : (a b : Bool) → (a && b) ≡ true → (a ≡ true) × (b ≡ true)
-and-both true b e = (refl, e)
-and-both false b e = absurd (false≢true e)
-
 pub is-operand : (before : Before) → is_operand before ≡ true → before ≡ operand
 is-operand operand e = refl
 is-operand start e = absurd (false≢true e)
 is-operand (Before.bracket ks) e = absurd (false≢true e)
 
-abbrev or_zero : Option ℕ → ℕ
-or_zero None = 0
-or_zero (Some n) = n
-
 split-here : (level depth : ℕ) (before : Before) (at j : ℕ) (t : Token) (ts : List Token) (o : Option Leveled) → operator t.kind ≡ o → is_cut level depth before t ≡ true → Some at ≡ Some j → Split depth before at j (t ∷ ts)
 split-here level depth before at j t ts None e c s =
-    let a = and-both (depth == 0) (is_operand before && has_level level (operator t.kind)) c in
-    let b = and-both (is_operand before) (has_level level (operator t.kind)) a.1 in
+    let a = both (depth == 0) (is_operand before && has_level level (operator t.kind)) c in
+    let b = both (is_operand before) (has_level level (operator t.kind)) a.1 in
     absurd (false≢true (ap (has_level level) (sym e) ∙ b.1))
 split-here level depth before at j t ts (Some o) e c s =
-    let a = and-both (depth == 0) (is_operand before && has_level level (operator t.kind)) c in
-    let b = and-both (is_operand before) (has_level level (operator t.kind)) a.1 in
-    let same : at ≡ j = ap or_zero s in
-    record { ls = []; t = t; rs = ts; is = refl; index = omega (arith, same); flat = grind (arith, nat_tests); ended = is-operand before b.0; leveled = o; operates = e }
+    let a = both (depth == 0) (is_operand before && has_level level (operator t.kind)) c in
+    let b = both (is_operand before) (has_level level (operator t.kind)) a.1 in
+    let same : at ≡ j = same_Some at j s in
+    record { ls = []; t = t; rs = ts; is = refl; index = omega (arith, same); flat = is-zero depth a.0; ended = is-operand before b.0; leveled = o; operates = e }
 
 split-later : (level depth : ℕ) (before : Before) (at j : ℕ) (t : Token) (ts : List Token) → Split (depth_after t.kind depth) (behind t.kind before) (at + 1) j ts → Split depth before at j (t ∷ ts)
 split-later level depth before at j t ts s = record {

@@ -3,7 +3,7 @@ use Rattle.std.proofs.Common.{◌≡◌, ℕ, suc, ◌+◌, ◌==◌, ◌<◌, �
 use Rattle.std.specs.Prelude.{◌&&◌, is_some}
 use Rattle.std.proofs.lemmas.Bool.{false≢true}
 use Rattle.std.proofs.lemmas.Bool.Decides.{nat_tests}
-use Rattle.std.proofs.lemmas.Option.{none-some}
+use Rattle.std.proofs.lemmas.Option.{none-some, same_Some}
 use Rattle.std.proofs.lemmas.List.{append-nil, take-append-drop, drop-drop, drop_all}
 use Rattle.std.proofs.Math.Seq.{take-length, take-append_seam, drop-append_seam}
 use Rattle.c_mean.specs.declared.place.Place.{Place}
@@ -23,10 +23,10 @@ use Rattle.c_mean.specs.ExpressionPart.{depth_over, before_over}
 use Rattle.c_mean.proofs.ExpressionSteps.{cut-some}
 use Rattle.c_mean.proofs.ExpressionTokens.{last_from-append, depth_over-append, before_over-append, IsFlat, operator-flat, operator-level, loosest-is}
 use Rattle.c_expression.specs.At.{IsAt, IsInfixAt, StopsAt, Stops}
-use Rattle.c_expression.specs.Joint.{cuts_here, IsJoint, IsTight, EndsAt, IsFirstJoint, Grown, GrownAll, Faults}
-use Rattle.c_expression.proofs.Commas.{at-drop}
+use Rattle.c_expression.specs.Joint.{cuts_here, IsJoint, IsTight, IsJointless, EndsAt, IsFirstJoint, Grown, GrownAll, Faults}
+use Rattle.c_expression.proofs.Commas.{both, is-zero, at-drop}
 use Rattle.c_expression.proofs.Growing.{take-next, taken-more, at-within}
-use Rattle.c_expression.proofs.FirstFault.{and-both, is-operand, joint-fault, fault}
+use Rattle.c_expression.proofs.FirstFault.{is-operand, joint-fault, fault}
 
 -- ---- up to the first operator between operands
 
@@ -36,10 +36,10 @@ not-cut true false level o e = refl
 not-cut true true level None e = refl
 not-cut true true level (Some v) e = absurd (false≢true (sym e))
 
-pub tight-none : IsTight 9 []
+pub tight-none : IsJointless []
 tight-none = record { none = λ level at h. refl }
 
-pub tight-next : (xs : List Token) (t : Token) → IsTight 9 xs → cuts_here (depth_over 0 xs) (before_over start xs) t ≡ false → IsTight 9 (xs ++ t ∷ [])
+pub tight-next : (xs : List Token) (t : Token) → IsJointless xs → cuts_here (depth_over 0 xs) (before_over start xs) t ≡ false → IsJointless (xs ++ t ∷ [])
 tight-next xs t tight e = record {
   none = λ level at h.
       last_from-append level at 0 start xs (t ∷ [])
@@ -58,26 +58,26 @@ module _ (ts : List Token) (i : ℕ) (t : Token) (at : IsAt i ts t) where
   pub before-next : (before : Before) → before ≡ before_over start (take i ts) → behind t.kind before ≡ before_over start (take (i + 1) ts)
   before-next before e = ap (behind t.kind) e ∙ sym (before_over-append start (take i ts) (t ∷ [])) ∙ ap (before_over start) (sym taken)
 
-  pub tight-more : (depth : ℕ) (before : Before) → depth ≡ depth_over 0 (take i ts) → before ≡ before_over start (take i ts) → IsTight 9 (take i ts) → cuts_here depth before t ≡ false → IsTight 9 (take (i + 1) ts)
-  tight-more depth before e f tight none = subst (IsTight 9) (sym taken) (tight-next (take i ts) t tight ((λ j. cuts_here (sym e j) (sym f j) t) ∙ none))
+  pub tight-more : (depth : ℕ) (before : Before) → depth ≡ depth_over 0 (take i ts) → before ≡ before_over start (take i ts) → IsJointless (take i ts) → cuts_here depth before t ≡ false → IsJointless (take (i + 1) ts)
+  tight-more depth before e f tight none = subst IsJointless (sym taken) (tight-next (take i ts) t tight ((λ j. cuts_here (sym e j) (sym f j) t) ∙ none))
 
-  by-level : (depth : ℕ) (before : Before) (o : Option Leveled) → operator t.kind ≡ o → depth ≡ depth_over 0 (take i ts) → before ≡ before_over start (take i ts) → IsTight 9 (take i ts)
+  by-level : (depth : ℕ) (before : Before) (o : Option Leveled) → operator t.kind ≡ o → depth ≡ depth_over 0 (take i ts) → before ≡ before_over start (take i ts) → IsJointless (take i ts)
       → (depth == 0 && (is_operand before && is_some o)) ≡ true → IsFirstJoint i ts
   by-level depth before None is e f tight yes_ =
-      let a = and-both (depth == 0) (is_operand before && false) yes_ in
-      absurd (false≢true (and-both (is_operand before) false a.1).1)
+      let a = both (depth == 0) (is_operand before && false) yes_ in
+      absurd (false≢true (both (is_operand before) false a.1).1)
   by-level depth before (Some o) is e f tight yes_ =
-      let a = and-both (depth == 0) (is_operand before && true) yes_ in
-      let b = and-both (is_operand before) true a.1 in
-      let zero_is : depth ≡ 0 = grind (arith, nat_tests) in
+      let a = both (depth == 0) (is_operand before && true) yes_ in
+      let b = both (is_operand before) true a.1 in
+      let zero_is = is-zero depth a.0 in
       record {
         token = t;
         at = at;
         joint = record { flat = sym e ∙ zero_is; ended = sym f ∙ is-operand before b.0; leveled = o; operates = is };
-        tight = tight;
+        first = tight;
       }
 
-  pub first-joint : (depth : ℕ) (before : Before) → depth ≡ depth_over 0 (take i ts) → before ≡ before_over start (take i ts) → IsTight 9 (take i ts) → cuts_here depth before t ≡ true → IsFirstJoint i ts
+  pub first-joint : (depth : ℕ) (before : Before) → depth ≡ depth_over 0 (take i ts) → before ≡ before_over start (take i ts) → IsJointless (take i ts) → cuts_here depth before t ≡ true → IsFirstJoint i ts
   first-joint depth before e f tight yes_ = by-level depth before (operator t.kind) refl e f tight yes_
 
 -- ---- two parts and the operator between them
@@ -140,13 +140,9 @@ module _ (room bound level : ℕ) (op : BinaryOp) (p q : List Token) (t : Token)
 
 -- ---- climbing
 
-abbrev or_this : Refusal → Option Refusal → Refusal
-or_this f None = f
-or_this f (Some x) = x
-
 is-err : (r : Result Expr Refusal) (x : Refusal) → fault r ≡ Some x → r ≡ Err x
 is-err (Ok v) x h = absurd (none-some x h)
-is-err (Err y) x h = ap (λ o. Err (or_this y o)) h
+is-err (Err y) x h = ap Err (same_Some y x h)
 
 pub grown-least : (room least : ℕ) (after : Place) (ts : List Token) (n : ℕ) (e : Expr) → least ≤ 9 → Grown room 9 after ts n e → Grown room least after ts n e
 grown-least room least after ts n e h g = record { within = g.within; cuts = g.cuts; bound = g.bound; above = omega (arith, h, g.above); tight = g.tight; ends = g.ends }
@@ -168,9 +164,9 @@ module _ (room least : ℕ) (after : Place) (ts : List Token) (n : ℕ) (a : Exp
   -- the right side has a fault
   pub fails-right : (f : Refusal) → cut room (drop (n + 1) ts) after ≡ Err f → cut room ts after ≡ Err f
   fails-right f e =
-      let both = joint-fault room (take n ts) at.token (drop (n + 1) ts) after next.joint in
+      let parts = joint-fault room (take n ts) at.token (drop (n + 1) ts) after next.joint in
       is-err (cut room ts after) f
-      (ap (λ us. fault (cut room us after)) whole ∙ both ∙ ap (λ r. or_else (fault r) (fault (cut room (drop (n + 1) ts) after))) left-cuts ∙ ap fault e)
+      (ap (λ us. fault (cut room us after)) whole ∙ parts ∙ ap (λ r. or_else (fault r) (fault (cut room (drop (n + 1) ts) after))) left-cuts ∙ ap fault e)
 
   -- both sides and the operator
   pub grown-more : (more : ℕ) (b : Expr) → least ≤ level → GrownAll room (level + 1) after (drop (n + 1) ts) more b → Grown room least after ts (n + 1 + more) (node place (k.Binary op a b))
@@ -219,7 +215,7 @@ all-cut room after ts n e g =
 
 -- ---- an operand
 
-pub last-operand : (room : ℕ) (after : Place) (ts : List Token) (e : Expr) → IsTight 9 ts → cut room ts after ≡ Ok e → Grown room 9 after ts (length ts) e
+pub last-operand : (room : ℕ) (after : Place) (ts : List Token) (e : Expr) → IsJointless ts → cut room ts after ≡ Ok e → Grown room 9 after ts (length ts) e
 last-operand room after ts e tight is =
     let all : take (length ts) ts ≡ ts = take-length ts in
     let none : drop (length ts) ts ≡ [] = drop_all (length ts) ts (omega arith) in
@@ -228,7 +224,7 @@ last-operand room after ts e tight is =
       cuts = (λ i. cut room (all i) (place_at (none i) after)) ∙ is;
       bound = 9;
       above = omega arith;
-      tight = subst (IsTight 9) (sym all) tight;
+      tight = subst IsJointless (sym all) tight;
       ends = subst (EndsAt 10 (take (length ts) ts)) (sym none) tt;
     }
 
@@ -243,16 +239,16 @@ first-operand room after ts n d e le j is =
       cuts = ap (λ rest. cut room (take n ts) (place_at rest after)) j.at.is ∙ ap (λ p. cut room (take n ts) p) (sym (at-place ts n d j.token j.at)) ∙ is;
       bound = 9;
       above = omega arith;
-      tight = j.tight;
+      tight = j.first;
       ends = subst (EndsAt 10 (take n ts)) (sym j.at.is) (record { joint = j.joint; looser = omega (arith, operator-level j.token.kind j.joint.leveled j.joint.operates) });
     }
 
 fails-left : (room : ℕ) (after : Place) (ts : List Token) (n : ℕ) (d : Token) (f : Refusal) → IsFirstJoint n ts → cut room (take n ts) (get_or ts n d).place ≡ Err f → cut room ts after ≡ Err f
 fails-left room after ts n d f j is =
     let whole : ts ≡ take n ts ++ j.token ∷ drop (n + 1) ts = sym (take-append-drop n ts) ∙ ap (λ rest. take n ts ++ rest) j.at.is in
-    let both = joint-fault room (take n ts) j.token (drop (n + 1) ts) after j.joint in
+    let parts = joint-fault room (take n ts) j.token (drop (n + 1) ts) after j.joint in
     is-err (cut room ts after) f
-    (ap (λ us. fault (cut room us after)) whole ∙ both
+    (ap (λ us. fault (cut room us after)) whole ∙ parts
     ∙ ap (λ r. or_else (fault r) (fault (cut room (drop (n + 1) ts) after))) (ap (λ p. cut room (take n ts) p) (sym (at-place ts n d j.token j.at)) ∙ is))
 
 -- ---- faults

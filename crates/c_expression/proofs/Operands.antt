@@ -1,8 +1,7 @@
 -- An operand behind prefix operators and casts.
 use Rattle.std.proofs.Common.{◌≡◌, ℕ, zero, suc, ◌+◌, ◌==◌, List, [], ◌∷◌, ◌++◌, length, take, drop, Option, Some, None, Result, Ok, Err, refl, sym, ap, subst, ◌∙◌, arith, Bool, true, false, cond, length-append, add-one}
 use Rattle.std.specs.Prelude.{is_some}
-use Rattle.std.proofs.lemmas.Bool.Decides.{nat_tests}
-use Rattle.std.proofs.lemmas.Option.{none-some}
+use Rattle.std.proofs.lemmas.Option.{none-some, same_Some}
 use Rattle.std.proofs.Math.Seq.{drop-append_seam}
 use Rattle.c_mean.specs.declared.place.Place.{Place}
 use Rattle.c_mean.specs.declared.token.Spelled.{Spelled}
@@ -26,11 +25,11 @@ use Rattle.c_mean.specs.TypeName.{spelled_of, kinds_of, is_type_word}
 use Rattle.c_mean.specs.ExpressionCut.{Before, start, bracket, operand, round_closed, mark_behind, word_behind, behind, is_cut, last_from, cut, alone, prefixed, primary, at_mark, round, round_by}
 use Rattle.c_mean.specs.ExpressionPart.{depth_over, before_over}
 use Rattle.c_mean.proofs.ExpressionSteps.{cut-none}
-use Rattle.c_mean.proofs.ExpressionTokens.{last_from-append, prefix-is-flat, loosest-none, skip-first}
+use Rattle.c_mean.proofs.ExpressionTokens.{last_from-append, prefix-is-flat, loosest-none, skip-first, suc-not-zero}
 use Rattle.c_expression.specs.declared.prefixes.PrefixKind.TheVariants.{Sign, Cast}
 use Rattle.c_expression.specs.declared.prefixes.PrefixOp.{PrefixOp}
 use Rattle.c_expression.specs.Prefixes.{with_prefix, with_prefixes}
-use Rattle.c_expression.specs.Joint.{IsTight, Faults}
+use Rattle.c_expression.specs.Joint.{IsJointless, Faults}
 use Rattle.c_expression.specs.Operand.{IsBefore}
 
 -- ---- tokens that begin anew
@@ -121,8 +120,8 @@ restarted level at other before (t ∷ ts) s e =
     ∙ ap (λ b. last_from level (other + 1) (depth_after t.kind 0) b ts) (sym (anew t.kind before s))
     ∙ shifted level (at + 1) (other + 1) (depth_after t.kind 0) (behind t.kind before) ts two.0
 
-tight-behind : (xs ys : List Token) → depth_over 0 xs ≡ 0 → Started (before_over start xs) → IsTight 9 (xs ++ ys) → IsTight 9 ys
-tight-behind xs ys flat s tight = record {
+jointless-behind : (xs ys : List Token) → depth_over 0 xs ≡ 0 → Started (before_over start xs) → IsJointless (xs ++ ys) → IsJointless ys
+jointless-behind xs ys flat s tight = record {
   none = λ level at h.
       let e = sym (last_from-append level 0 0 start xs ys) ∙ tight.none level 0 h in
       let two = or-none (last_from level (0 + length xs) (depth_over 0 xs) (before_over start xs) ys) (last_from level 0 0 start xs) e in
@@ -137,7 +136,7 @@ sign-before room t rest after u is =
     record {
       within = omega arith;
       cuts = ap (λ o. prefixed cut room o t rest after) is;
-      tight = tight-behind (t ∷ []) rest (flat.depth 0) (subst Started (sym (flat.after start)) tt);
+      jointless = jointless-behind (t ∷ []) rest (flat.depth 0) (subst Started (sym (flat.after start)) tt);
     }
 
 -- ---- a cast
@@ -173,17 +172,13 @@ started-kind : (k : TokenKind) (before : Before) (d : ℕ) → depth_after k (su
 started-kind (Mark w) before d e = started-mark (mark_of (Mark w)) before d e
 started-kind _ before d e = absurd (omega (arith, e))
 
-abbrev or_zero : Option ℕ → ℕ
-or_zero None = 0
-or_zero (Some i) = i
-
 closing-by : (n d at : ℕ) (t : Token) (ts : List Token) (m : ℕ) → depth_after t.kind (suc d) ≡ m → cond (m == 0) (Some n) (closing_from (n + 1) m ts) ≡ Some at
     → ((e : ℕ) → m ≡ suc e → closing_from (n + 1) (suc e) ts ≡ Some at → IsClosing (n + 1) (suc e) at ts) → IsClosing n (suc d) at (t ∷ ts)
 closing-by n d at t ts zero m e ih =
-    let same : n ≡ at = ap or_zero e in
+    let same : n ≡ at = same_Some n at e in
     record { xs = t ∷ []; ys = ts; is = refl; index = omega (arith, same); flat = m; ended = λ before. started-kind t.kind before d m }
 closing-by n d at t ts (suc k) m e ih =
-    let more = ih k refl (sym (ap (λ b. cond b (Some n) (closing_from (n + 1) (suc k) ts)) (not-zero k)) ∙ e) in
+    let more = ih k refl (sym (ap (λ b. cond b (Some n) (closing_from (n + 1) (suc k) ts)) (suc-not-zero k)) ∙ e) in
     record {
       xs = t ∷ more.xs;
       ys = more.ys;
@@ -192,9 +187,6 @@ closing-by n d at t ts (suc k) m e ih =
       flat = ap (λ x. depth_over x more.xs) m ∙ more.flat;
       ended = λ before. more.ended (behind t.kind before);
     }
-  where
-    not-zero : (i : ℕ) → suc i == 0 ≡ false
-    not-zero i = grind (arith, nat_tests)
 
 closing : (n d at : ℕ) (ts : List Token) → closing_from n (suc d) ts ≡ Some at → IsClosing n (suc d) at ts
 closing n d at [] e = absurd (none-some at e)
@@ -226,29 +218,26 @@ cast-before room t rest after at to bare is closes spells some_room =
           ∙ ap (λ o. round_by cut room t.place o at rest after) spells
           ∙ ap (λ b. cond b (Err (too_deep t.place)) (cut room (drop (at + 1) rest) after) >>= (λ e. Ok (with_prefix (record { place = t.place; kind = Cast to }) e))) some_room
           ∙ ap (λ us. cut room us after >>= (λ e. Ok (with_prefix (record { place = t.place; kind = Cast to }) e))) (sym same);
-      tight = λ tight. subst (IsTight 9) (sym behind_all)
-          (tight-behind (t ∷ c.xs) c.ys (ap (λ d. depth_over d c.xs) (open-depth (mark_of t.kind) is) ∙ c.flat) (c.ended (behind t.kind start)) (subst (IsTight 9) (ap (λ us. t ∷ us) c.is) tight));
+      jointless = λ tight. subst IsJointless (sym behind_all)
+          (jointless-behind (t ∷ c.xs) c.ys (ap (λ d. depth_over d c.xs) (open-depth (mark_of t.kind) is) ∙ c.flat) (c.ended (behind t.kind start)) (subst IsJointless (ap (λ us. t ∷ us) c.is) tight));
     }
 
 -- ---- all that stands before an operand
 
-with-more : (ps qs : List PrefixOp) (e : Expr) → with_prefixes (ps ++ qs) e ≡ with_prefixes ps (with_prefixes qs e)
-with-more [] qs e = refl
-with-more (p ∷ ps) qs e = ap (with_prefix p) (with-more ps qs e)
-
 -- the last of them stands next to the operand
 pub last-prefix : (ps : List PrefixOp) (p : PrefixOp) (e : Expr) → with_prefixes (ps ++ p ∷ []) e ≡ with_prefixes ps (with_prefix p e)
-last-prefix ps p e = with-more ps (p ∷ []) e
+last-prefix [] p e = refl
+last-prefix (q ∷ ps) p e = ap (with_prefix q) (last-prefix ps p e)
 
-pub alone-cut : (room : ℕ) (ts : List Token) (after : Place) → IsTight 9 ts → cut room ts after ≡ alone cut room ts after
+pub alone-cut : (room : ℕ) (ts : List Token) (after : Place) → IsJointless ts → cut room ts after ≡ alone cut room ts after
 alone-cut room ts after tight = cut-none room ts after (sym (loosest-none ts (λ l h. tight.none l 0 h)))
 
-behind-more : (r : Result Expr Refusal) (ps : List PrefixOp) (p : PrefixOp) → ((r >>= λ e. Ok (with_prefix p e)) >>= (λ e. Ok (with_prefixes ps e))) ≡ (r >>= λ e. Ok (with_prefixes (ps ++ p ∷ []) e))
+pub behind-more : (r : Result Expr Refusal) (ps : List PrefixOp) (p : PrefixOp) → ((r >>= λ e. Ok (with_prefix p e)) >>= (λ e. Ok (with_prefixes ps e))) ≡ (r >>= λ e. Ok (with_prefixes (ps ++ p ∷ []) e))
 behind-more (Ok e) ps p = ap Ok (sym (last-prefix ps p e))
 behind-more (Err f) ps p = refl
 
 -- what a front means, where the operand has these before it
-module _ (room : ℕ) (whole left : List Token) (after : Place) (ps : List PrefixOp) (tight : IsTight 9 left) (told : cut room whole after ≡ (cut room left after >>= λ e. Ok (with_prefixes ps e))) where
+module _ (room : ℕ) (whole left : List Token) (after : Place) (ps : List PrefixOp) (tight : IsJointless left) (told : cut room whole after ≡ (cut room left after >>= λ e. Ok (with_prefixes ps e))) where
   alone-told : cut room whole after ≡ (alone cut room left after >>= λ e. Ok (with_prefixes ps e))
   alone-told = told ∙ ap (λ r. r >>= (λ e. Ok (with_prefixes ps e))) (alone-cut room left after tight)
 

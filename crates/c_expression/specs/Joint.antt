@@ -27,6 +27,10 @@ pub record IsJoint (ls : List Token) (t : Token) : Type 0 where
 pub record IsTight (bound : ℕ) (ts : List Token) : Type 0 where
   pub none : (level at : ℕ) → level < bound → last_from level at 0 start ts ≡ None
 
+-- no operator at all does, since all levels are below 9
+abbrev pub IsJointless : List Token → Type 0
+IsJointless ts = IsTight 9 ts
+
 -- the operator is looser than the bound
 pub record IsLooser (bound : ℕ) (ls : List Token) (t : Token) : Type 0 where
   pub joint : IsJoint ls t
@@ -42,7 +46,7 @@ pub record IsFirstJoint (n : ℕ) (ts : List Token) : Type 0 where
   pub token : Token
   pub at : IsAt n ts token
   pub joint : IsJoint (take n ts) token
-  pub tight : IsTight 9 (take n ts)
+  pub first : IsJointless (take n ts)
 
 -- ---- what was read from the front of tokens
 

@@ -11,7 +11,7 @@ ghost use Rattle.c_mean.specs.Brackets as brackets;
 ghost use Rattle.c_mean.specs.Operators as ops;
 ghost use Rattle.c_mean.specs.Symbol as symbols;
 ghost use Rattle.c_mean.specs.ExpressionCut as spec;
-ghost use Rattle.c_expression.specs.Joint.{IsTight, Grown, GrownAll, Faults};
+ghost use Rattle.c_expression.specs.Joint.{IsJointless, Grown, GrownAll, Faults};
 ghost use Rattle.c_expression.specs.Operand.{IsFrontOf};
 
 use crate::brackets::{closing, opens};
@@ -145,25 +145,25 @@ fn operand(
 /// An operand that is all of the tokens.
 #[cycle(cutting)]
 fn alone(alloc: Global, tokens: &[Token], room: u32, after: Place) -> Result<Expr, CFault>
-    requires { IsTight 9 tokens.now }
+    requires { IsJointless tokens.now }
     ensures { Gives (λ e. e) result (spec.cut room tokens.now after) }
 {
     let mut ops = Vec::new(alloc);
     let mut left = tokens;
     loop {
         match front_of(alloc, left, room, after)? {
-            Front::Prefix(op, more) => {
+            OperandFront::Prefix(op, more) => {
                 ops.push(op)?;
                 left = behind(left, more + 1);
             }
-            Front::Whole(tree) => return Ok(with_prefixes(alloc, ops, tree)?),
+            OperandFront::Whole(tree) => return Ok(with_prefixes(alloc, ops, tree)?),
         }
     }
 }
 
 /// What stands at the front of an operand.
 #[derive(Drop)]
-pub enum Front {
+pub enum OperandFront {
     /// A prefix operator or a cast, and how many of its tokens follow the first.
     Prefix(PrefixOp, usize),
     /// All of it.
@@ -171,7 +171,12 @@ pub enum Front {
 }
 
 #[cycle(cutting)]
-fn front_of(alloc: Global, tokens: &[Token], room: u32, after: Place) -> Result<Front, CFault>
+fn front_of(
+    alloc: Global,
+    tokens: &[Token],
+    room: u32,
+    after: Place,
+) -> Result<OperandFront, CFault>
     ensures ok { IfOk result (λ f. IsFrontOf f room tokens.now after) }
     ensures err { Faults result (spec.alone spec.cut room tokens.now after) }
 {
@@ -181,12 +186,12 @@ fn front_of(alloc: Global, tokens: &[Token], room: u32, after: Place) -> Result<
     let place = token.place;
     if let Some(op) = prefix(&token.kind) {
         let kind = PrefixKind::Sign(op);
-        return Ok(Front::Prefix(PrefixOp { place, kind }, 0));
+        return Ok(OperandFront::Prefix(PrefixOp { place, kind }, 0));
     }
     if is_round(&token.kind) {
         return round(alloc, token, rest, room, after);
     }
-    Ok(Front::Whole(primary(alloc, token, rest, room, after)?))
+    Ok(OperandFront::Whole(primary(alloc, token, rest, room, after)?))
 }
 
 /// What stands without a prefix operator, and not in brackets.
@@ -312,7 +317,7 @@ fn round(
     rest: &[Token],
     room: u32,
     after: Place,
-) -> Result<Front, CFault>
+) -> Result<OperandFront, CFault>
     requires opens { brackets.is_bracket Round (brackets.opens token.now.kind) ≡ true }
     requires bare { ops.prefix token.now.kind ≡ None }
     ensures ok { IfOk result (λ f. IsFrontOf f room (token.now ∷ rest.now) after) }
@@ -325,13 +330,13 @@ fn round(
     if let Some(to) = spelled(&rest[..at]) {
         inside(room, place)?;
         let kind = PrefixKind::Cast(to);
-        return Ok(Front::Prefix(PrefixOp { place, kind }, at + 1));
+        return Ok(OperandFront::Prefix(PrefixOp { place, kind }, at + 1));
     }
     let Some((inner, close)) = closed_at(&rest[..at], &rest[at..]) else {
         return Err(syntax(place));
     };
     let inner = cut(alloc, inner, inside(room, place)?, close)?;
-    Ok(Front::Whole(Expr {
+    Ok(OperandFront::Whole(Expr {
         place,
         kind: ExprKind::Bracket(Boxed::new(alloc, inner)?),
     }))

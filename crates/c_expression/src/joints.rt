@@ -3,7 +3,7 @@ ghost use Rattle.std.specs.Prelude.{◌≡◌, ◌+◌, ◌<◌, ◌≤◌, ◌^
 ghost use Rattle.c_expression.specs.At.{IsInfixAt, Stops};
 ghost use Rattle.c_mean.specs.ExpressionCut as spec;
 ghost use Rattle.c_expression.specs.Before.{Tokens, before_of, IsFrom};
-ghost use Rattle.c_expression.specs.Joint.{cuts_here, IsTight, IsFirstJoint};
+ghost use Rattle.c_expression.specs.Joint.{cuts_here, IsJointless, IsFirstJoint};
 
 use crate::brackets::depth_after;
 use crate::operators::operator;
@@ -87,7 +87,7 @@ fn is_joint(depth: usize, before: Before, token: &Token) -> bool
 
 /// How many tokens stand before the first operator between two operands, outside brackets.
 pub fn first_joint(tokens: &[Token]) -> Option<usize>
-    ensures none { IfNone result (IsTight 9 tokens.now) }
+    ensures none { IfNone result (IsJointless tokens.now) }
     ensures some { IfSome result (λ i. IsFirstJoint i tokens.now) }
     ensures within { IfSome result (λ i. i < length tokens.now) }
 {

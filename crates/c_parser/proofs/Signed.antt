@@ -11,15 +11,8 @@ use Rattle.c_mean.specs.CaseValue.{signed, value_step, case_value}
 use Rattle.c_mean.proofs.CaseSteps.{case_value-step}
 use Rattle.c_expression.specs.Prefixes.{with_prefix, with_prefixes}
 use Rattle.c_expression.specs.declared.prefixes.PrefixOp.{PrefixOp}
+use Rattle.c_expression.proofs.Operands.{behind-more}
 use Rattle.c_parser.specs.Signs.{IsSignAt, AreSigns}
-
-last-sign : (ps : List PrefixOp) (p : PrefixOp) (e : Expr) → with_prefixes (ps ++ p ∷ []) e ≡ with_prefixes ps (with_prefix p e)
-last-sign [] p e = refl
-last-sign (q ∷ ps) p e = ap (with_prefix q) (last-sign ps p e)
-
-behind-more : (r : Result Expr Refusal) (ps : List PrefixOp) (p : PrefixOp) → ((r >>= λ e. Ok (with_prefix p e)) >>= (λ e. Ok (with_prefixes ps e))) ≡ (r >>= λ e. Ok (with_prefixes (ps ++ p ∷ []) e))
-behind-more (Ok e) ps p = ap Ok (sym (last-sign ps p e))
-behind-more (Err f) ps p = refl
 
 pub no-signs : (ts : List Token) → AreSigns ts 0 []
 no-signs ts = record { within = omega arith; before = λ room after. none (case_value room ts after) }

@@ -12,7 +12,7 @@ pub alone-returns-in_err-op : goal.alone-returns-in_err-op
 alone-returns-in_err-op t c =
     let p = err_from_is_err_and c.from_residual.result c.from_residual.ensures.1 in
     let inv = c.loop-ops.invariant in
-    rw (p.1, p.2) (told-fault c.args.room c.args.tokens.now c.loop-ops.left.now c.args.after c.loop-ops.ops.items inv.tight inv.told c.in_err-op.field-0.0 c.in_err-op.ensures.err)
+    rw (p.1, p.2) (told-fault c.args.room c.args.tokens.now c.loop-ops.left.now c.args.after c.loop-ops.ops.items inv.jointless inv.told c.in_err-op.field-0.0 c.in_err-op.ensures.err)
 
 pub alone-loop-ops-preserved : goal.alone-loop-ops-preserved
 alone-loop-ops-preserved t c =
@@ -21,8 +21,8 @@ alone-loop-ops-preserved t c =
     let b : IsBefore c.args.room left c.args.after c.in-Prefix.op c.in-Prefix.more = subst (λ f. IsFrontOf f c.args.room left c.args.after) c.in-Prefix.is c.in_ok-op.ensures.ok in
     record {
       within = rw c.behind-left.ensures (omega (arith, inv.within, length-drop (c.in-Prefix.more + 1) left));
-      tight = rw c.behind-left.ensures (b.tight inv.tight);
-      told = rw (c.behind-left.ensures, c.in_ok-push-in-Prefix.ensures.items) (told-before c.args.room c.args.tokens.now left c.args.after c.loop-ops.ops.items inv.tight inv.told c.in-Prefix.op c.in-Prefix.more b);
+      jointless = rw c.behind-left.ensures (b.jointless inv.jointless);
+      told = rw (c.behind-left.ensures, c.in_ok-push-in-Prefix.ensures.items) (told-before c.args.room c.args.tokens.now left c.args.after c.loop-ops.ops.items inv.jointless inv.told c.in-Prefix.op c.in-Prefix.more b);
     }
 
 pub alone-returns-in-Whole : goal.alone-returns-in-Whole
@@ -30,7 +30,7 @@ alone-returns-in-Whole t c =
     let left = c.loop-ops.left.now in
     let inv = c.loop-ops.invariant in
     let is = subst (λ f. IsFrontOf f c.args.room left c.args.after) c.in-Whole.is c.in_ok-op.ensures.ok in
-    rw c.in_ok-with_prefixes-in-Whole.ensures (told-whole c.args.room c.args.tokens.now left c.args.after c.loop-ops.ops.items inv.tight inv.told c.in-Whole.tree is)
+    rw c.in_ok-with_prefixes-in-Whole.ensures (told-whole c.args.room c.args.tokens.now left c.args.after c.loop-ops.ops.items inv.jointless inv.told c.in-Whole.tree is)
 
 pub climb-returns-in_err-right-clause-err : goal.climb-returns-in_err-right-clause-err
 climb-returns-in_err-right-clause-err t c =

@@ -4,7 +4,7 @@ use Rattle.c_mean.specs.ExpressionCut.{cut, cut_all, arguments}
 use Rattle.c_expression.specs.Front.{with_front}
 use Rattle.c_expression.specs.Parts.{parts_left, count_left}
 use Rattle.c_expression.specs.Prefixes.{with_prefixes}
-use Rattle.c_expression.specs.Joint.{IsTight, Grown}
+use Rattle.c_expression.specs.Joint.{IsJointless, Grown}
 use Rattle.c_expression.proofs.cutting.+cutting.Given as goal
 
 abbrev pub decreases-cut : goal.decreases-cut
@@ -43,7 +43,7 @@ decreases-climb-loop-infix l = length l.tokens - l.count
 abbrev pub invariant-alone-loop-ops : goal.invariant-alone-loop-ops
 invariant-alone-loop-ops l = record {
   within : length l.left ≤ length l.tokens;
-  tight : IsTight 9 l.left;
+  jointless : IsJointless l.left;
   told : cut l.room l.tokens l.after ≡ (cut l.room l.left l.after >>= λ e. Ok (with_prefixes l.ops.items e));
 }
 

@@ -9,7 +9,7 @@ returns-then-is_joint-clause-some c =
     let ts = c.args.tokens.now in
     let i = c.loop-i.i in
     let t = c.index-tokens-i.result in
-    first-joint ts i t (token-at i ts t c.loop-i-test.true c.index-tokens-i.is) c.loop-i.depth (before_of ts i c.loop-i.before) c.loop-i.invariant.flat c.loop-i.invariant.state c.loop-i.invariant.tight
+    first-joint ts i t (token-at i ts t c.loop-i-test.true c.index-tokens-i.is) c.loop-i.depth (before_of ts i c.loop-i.before) c.loop-i.invariant.flat c.loop-i.invariant.state c.loop-i.invariant.none
     (sym (c.is_joint.ensures ts i) ∙ c.if-is_joint.true)
 
 pub loop-i-preserved : goal.loop-i-preserved
@@ -25,5 +25,5 @@ loop-i-preserved c =
       from = c.behind-before.ensures.from;
       flat = c.depth_after-depth.ensures.value ∙ depth-next ts i t at c.loop-i.depth inv.flat;
       state = c.behind-before.ensures.value ∙ before-next ts i t at before inv.state;
-      tight = tight-more ts i t at c.loop-i.depth before inv.flat inv.state inv.tight (sym (c.is_joint.ensures ts i) ∙ c.if-is_joint.false);
+      none = tight-more ts i t at c.loop-i.depth before inv.flat inv.state inv.none (sym (c.is_joint.ensures ts i) ∙ c.if-is_joint.false);
     }
