@@ -18,7 +18,7 @@ from generated import pack, signals
 from measuring import exponent, measure
 
 TOP = os.path.dirname(os.path.dirname(os.path.abspath(__file__)))
-CRATES = ["cg_out", "c_mean", "c_lexer", "c_pre"]
+CRATES = ["cg_out", "c_text", "c_lexer", "c_pre"]
 NAME = "lexer_bench"
 COLUMNS = ["call", "bytes", "tokens", "left", "macros", "seconds", "processor", "MB/s", "ns/byte", "peak MB", "B/token"]
 LIMIT = 67_108_864
@@ -28,7 +28,7 @@ PROGRAM = r"""//! Reads the file of its second word; by its first, `tokens` cuts
 #![tactic(auto)]
 
 use c_lexer::{SOURCE_LIMIT, tokens};
-use c_mean::CFault;
+use c_text::CFault;
 use c_pre::expand;
 use std::alloc::Global;
 use std::io::{ErrorKind, Read};
@@ -160,7 +160,7 @@ def build(folder):
     with open(os.path.join(TOP, "crates.txt"), encoding="ascii") as f:
         lines = [line for line in f if line.split(":")[0] in CRATES]
     with open(os.path.join(folder, "crates.txt"), "w", encoding="ascii") as f:
-        f.writelines(lines + [f"{NAME}: c_pre c_lexer c_mean cg_out\n"])
+        f.writelines(lines + [f"{NAME}: c_pre c_lexer c_text cg_out\n"])
     crate = os.path.join(folder, "crates", NAME)
     for part in ("src", "specs", "proofs"):
         os.makedirs(os.path.join(crate, part), exist_ok=True)

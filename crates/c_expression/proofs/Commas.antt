@@ -3,13 +3,14 @@ use Rattle.std.proofs.Common.{◌≡◌, ℕ, zero, suc, ◌+◌, ◌==◌, ◌&
 use Rattle.std.proofs.lemmas.Bool.{false≢true}
 use Rattle.std.proofs.lemmas.Bool.Decides.{nat_tests}
 use Rattle.std.proofs.lemmas.Option.{none-some, same_Some}
-use Rattle.c_mean.specs.declared.token.Token.{Token}
-use Rattle.c_mean.specs.declared.place.Place.{Place}
-use Rattle.c_mean.specs.declared.symbol.Punctuator.{Punctuator}
-use Rattle.c_mean.specs.declared.symbol.Punctuator.TheVariants as mark
-use Rattle.c_mean.specs.Symbol.{is_comma, is_comma_mark, mark_of}
-use Rattle.c_mean.specs.Brackets.{mark_opens, mark_closes, depth_by, depth_after, first_outside}
-use Rattle.c_mean.specs.ExpressionCut.{Part, parts, put_in}
+use Rattle.c_text.specs.declared.token.Token.{Token}
+use Rattle.c_text.specs.declared.place.Place.{Place}
+use Rattle.c_tree.specs.declared.symbol.Punctuator.{Punctuator}
+use Rattle.c_tree.specs.declared.symbol.Punctuator.TheVariants as mark
+use Rattle.c_tree.specs.Symbol.{is_comma, is_comma_mark, mark_of}
+use Rattle.c_tree.specs.Brackets.{mark_opens, mark_closes, depth_by, depth_after, first_outside}
+use Rattle.c_tree.specs.ExpressionCut.{Delimited, parts, put_in}
+use Rattle.cg_out.proofs.WordLaws.{both}
 
 -- a comma opens and closes nothing
 comma-flat : (m : Option Punctuator) (d : ℕ) → is_comma_mark m ≡ true → depth_by (mark_opens m) (mark_closes m) d ≡ d
@@ -60,7 +61,7 @@ record Cut (after : Place) (depth at j : ℕ) (ts : List Token) : Type 0 where
   split : drop count ts ≡ comma ∷ rest
   are : parts after depth ts ≡ (take count ts, comma.place) ∷ parts after 0 rest
 
-parts-none-by : (after : Place) (b : Bool) (at : ℕ) (t : Token) (ts : List Token) (more : Option ℕ) (ps : List Part) → (if b then Some at else more) ≡ None → (more ≡ None → ps ≡ (ts, after) ∷ [])
+parts-none-by : (after : Place) (b : Bool) (at : ℕ) (t : Token) (ts : List Token) (more : Option ℕ) (ps : List Delimited) → (if b then Some at else more) ≡ None → (more ≡ None → ps ≡ (ts, after) ∷ [])
     → put_in b t ps ≡ (t ∷ ts, after) ∷ []
 parts-none-by after true at t ts more ps e ih = absurd (none-some at (sym e))
 parts-none-by after false at t ts more ps e ih = rw (ih e) refl
@@ -73,10 +74,6 @@ parts-none after depth at (t ∷ ts) e =
 
 pub is-zero : (n : ℕ) → (n == 0) ≡ true → n ≡ 0
 is-zero n h = grind (arith, nat_tests)
-
-pub both : (a b : Bool) → (a && b) ≡ true → (a ≡ true) × (b ≡ true)
-both true b h = (refl, h)
-both false b h = absurd (false≢true h)
 
 parts-some-by : (after : Place) (b : Bool) (depth at j : ℕ) (t : Token) (ts : List Token) (more : Option ℕ)
     → (depth == 0 && is_comma t.kind) ≡ b → (if b then Some at else more) ≡ Some j → (more ≡ Some j → Cut after (depth_after t.kind depth) (at + 1) j ts) → Cut after depth at j (t ∷ ts)

@@ -5,23 +5,19 @@ use Rattle.std.proofs.lemmas.Bool.{false≢true}
 use Rattle.std.proofs.lemmas.Bool.Decides.{nat_tests}
 use Rattle.std.proofs.lemmas.Option.{none-some, same_Some}
 use Rattle.std.proofs.Math.Seq.{take-append_seam, drop-append_seam}
-use Rattle.c_mean.specs.declared.place.Place.{Place}
-use Rattle.c_mean.specs.declared.token.Token.{Token}
-use Rattle.c_mean.specs.Refusal.{Refusal}
-use Rattle.c_mean.specs.Sequence.{◌>>=◌}
-use Rattle.c_mean.specs.MacroDefinition.{or_else}
-use Rattle.c_mean.specs.Operators.{Leveled, levels, operator}
-use Rattle.c_mean.specs.Brackets.{depth_after}
-use Rattle.c_mean.specs.ExpressionCut.{Before, start, operand, behind, is_operand, has_level, is_cut, last_from, loosest_of, loosest, Cutting, binary_of, at_operator, cut}
-use Rattle.c_mean.specs.ExpressionPart.{depth_over, before_over}
-use Rattle.c_mean.proofs.ExpressionSteps.{cut-some}
-use Rattle.c_mean.proofs.ExpressionTokens.{last_from-append, depth_over-append, before_over-append, operator-flat, operator-level}
+use Rattle.c_text.specs.declared.place.Place.{Place}
+use Rattle.c_text.specs.declared.token.Token.{Token}
+use Rattle.c_text.specs.Refusal.{Refusal}
+use Rattle.cg_out.specs.Words.{◌>>=◌, or_else}
+use Rattle.c_tree.specs.Operators.{Leveled, levels, operator}
+use Rattle.c_tree.specs.Brackets.{depth_after}
+use Rattle.c_tree.specs.ExpressionCut.{Before, start, operand, behind, is_operand, has_level, is_cut, last_from, loosest_of, loosest, Cutting, binary_of, at_operator, expression_of}
+use Rattle.c_tree.specs.TokenRun.{depth_over, before_over}
+use Rattle.c_tree.proofs.ExpressionSteps.{expression_of-some}
+use Rattle.c_tree.proofs.ExpressionTokens.{last_from-append, depth_over-append, before_over-append, operator-flat, operator-level}
 use Rattle.c_expression.specs.Joint.{IsJoint}
-use Rattle.c_expression.proofs.Commas.{both, is-zero}
-
-or_else-assoc : (x y z : Option Refusal) → or_else (or_else x y) z ≡ or_else x (or_else y z)
-or_else-assoc (Some x) y z = refl
-or_else-assoc None y z = refl
+use Rattle.cg_out.proofs.WordLaws.{or_else-assoc, both}
+use Rattle.c_expression.proofs.Commas.{is-zero}
 
 -- ---- the operator at which tokens are cut stands between operands
 
@@ -195,13 +191,13 @@ fault-parts (Ok x) (Err f) o v p e = refl
 fault-parts (Err f) b o v p e = refl
 
 -- at the operator of which the cut is made
-fault-cut : (room : ℕ) (ts : Tokens) (after : Place) (j : ℕ) → Some j ≡ loosest ts → (s : Split 0 start 0 j ts) → fault (cut room ts after) ≡ or_else (fault (cut room s.ls s.t.place)) (fault (cut room s.rs after))
+fault-cut : (room : ℕ) (ts : Tokens) (after : Place) (j : ℕ) → Some j ≡ loosest ts → (s : Split 0 start 0 j ts) → fault (expression_of room ts after) ≡ or_else (fault (expression_of room s.ls s.t.place)) (fault (expression_of room s.rs after))
 fault-cut room ts after j e s =
     let n : j ≡ length s.ls = omega (arith, s.index) in
-    ap fault (cut-some room ts after j e)
-    ∙ ap (λ i. fault (at_operator cut room (take i ts) (drop i ts) after)) n
-    ∙ ap (λ us. fault (at_operator cut room (take (length s.ls) us) (drop (length s.ls) us) after)) s.is
-    ∙ rw (take-append_seam, drop-append_seam) (fault-parts (cut room s.ls s.t.place) (cut room s.rs after) (operator s.t.kind) s.leveled s.t.place s.operates)
+    ap fault (expression_of-some room ts after j e)
+    ∙ ap (λ i. fault (at_operator expression_of room (take i ts) (drop i ts) after)) n
+    ∙ ap (λ us. fault (at_operator expression_of room (take (length s.ls) us) (drop (length s.ls) us) after)) s.is
+    ∙ rw (take-append_seam, drop-append_seam) (fault-parts (expression_of room s.ls s.t.place) (expression_of room s.rs after) (operator s.t.kind) s.leveled s.t.place s.operates)
 
 found-is : (o : Option ℕ) → IsFound o → (B : Type 0) → ((j : ℕ) → o ≡ Some j → B) → B
 found-is None f B k = absurd f
@@ -209,34 +205,34 @@ found-is (Some j) f B k = k j refl
 
 -- at any operator between operands
 abbrev Within : ℕ → ℕ → Type 0
-Within n room = (l : Tokens) (t : Token) (r : Tokens) (after : Place) → length l + length r < n → IsJoint l t → fault (cut room (l ++ t ∷ r) after) ≡ or_else (fault (cut room l t.place)) (fault (cut room r after))
+Within n room = (l : Tokens) (t : Token) (r : Tokens) (after : Place) → length l + length r < n → IsJoint l t → fault (expression_of room (l ++ t ∷ r) after) ≡ or_else (fault (expression_of room l t.place)) (fault (expression_of room r after))
 
 -- the parts round an operator, by where another one stands
 module _ (n room : ℕ) (ih : Within n room) (l : Tokens) (t : Token) (r : Tokens) (after : Place) (le : length l + length r < suc n) (j : IsJoint l t) where
-  fault-where : (s : Tokens) (u : Token) (q : Tokens) → IsJoint s u → Where l t r s u q → or_else (fault (cut room s u.place)) (fault (cut room q after)) ≡ or_else (fault (cut room l t.place)) (fault (cut room r after))
-  fault-where s u q k (same a b c) = λ i. or_else (fault (cut room (sym a i) (sym b i).place)) (fault (cut room (sym c i) after))
+  fault-where : (s : Tokens) (u : Token) (q : Tokens) → IsJoint s u → Where l t r s u q → or_else (fault (expression_of room s u.place)) (fault (expression_of room q after)) ≡ or_else (fault (expression_of room l t.place)) (fault (expression_of room r after))
+  fault-where s u q k (same a b c) = λ i. or_else (fault (expression_of room (sym a i) (sym b i).place)) (fault (expression_of room (sym c i) after))
   fault-where s u q k (earlier m a b) =
       let inner = joint-front s m u t k (subst (λ xs. IsJoint xs t) a j) in
       let size = length-append s (u ∷ m) in
       let right = ih m t r after (omega (arith, le, size, ap length a)) inner in
       let left = ih s u m t.place (omega (arith, le, size, ap length a)) k in
-      ap (λ xs. or_else (fault (cut room s u.place)) (fault (cut room xs after))) b
-      ∙ ap (λ o. or_else (fault (cut room s u.place)) o) right
-      ∙ sym (or_else-assoc (fault (cut room s u.place)) (fault (cut room m t.place)) (fault (cut room r after)))
-      ∙ ap (λ o. or_else o (fault (cut room r after))) (sym left)
-      ∙ ap (λ xs. or_else (fault (cut room xs t.place)) (fault (cut room r after))) (sym a)
+      ap (λ xs. or_else (fault (expression_of room s u.place)) (fault (expression_of room xs after))) b
+      ∙ ap (λ o. or_else (fault (expression_of room s u.place)) o) right
+      ∙ sym (or_else-assoc (fault (expression_of room s u.place)) (fault (expression_of room m t.place)) (fault (expression_of room r after)))
+      ∙ ap (λ o. or_else o (fault (expression_of room r after))) (sym left)
+      ∙ ap (λ xs. or_else (fault (expression_of room xs t.place)) (fault (expression_of room r after))) (sym a)
   fault-where s u q k (later m a b) =
       let inner = joint-front l m t u j (subst (λ xs. IsJoint xs u) a k) in
       let size = length-append m (u ∷ q) in
       let left = ih l t m u.place (omega (arith, le, size, ap length b)) j in
       let right = ih m u q after (omega (arith, le, size, ap length b)) inner in
-      ap (λ xs. or_else (fault (cut room xs u.place)) (fault (cut room q after))) a
-      ∙ ap (λ o. or_else o (fault (cut room q after))) left
-      ∙ or_else-assoc (fault (cut room l t.place)) (fault (cut room m u.place)) (fault (cut room q after))
-      ∙ ap (λ o. or_else (fault (cut room l t.place)) o) (sym right)
-      ∙ ap (λ xs. or_else (fault (cut room l t.place)) (fault (cut room xs after))) (sym b)
+      ap (λ xs. or_else (fault (expression_of room xs u.place)) (fault (expression_of room q after))) a
+      ∙ ap (λ o. or_else o (fault (expression_of room q after))) left
+      ∙ or_else-assoc (fault (expression_of room l t.place)) (fault (expression_of room m u.place)) (fault (expression_of room q after))
+      ∙ ap (λ o. or_else (fault (expression_of room l t.place)) o) (sym right)
+      ∙ ap (λ xs. or_else (fault (expression_of room l t.place)) (fault (expression_of room xs after))) (sym b)
 
-  fault-step : fault (cut room (l ++ t ∷ r) after) ≡ or_else (fault (cut room l t.place)) (fault (cut room r after))
+  fault-step : fault (expression_of room (l ++ t ∷ r) after) ≡ or_else (fault (expression_of room l t.place)) (fault (expression_of room r after))
   fault-step =
       let found = loosest-found j.leveled.0 (l ++ t ∷ r) (operator-level t.kind j.leveled j.operates) (last-found l t r j) in
       found-is (loosest (l ++ t ∷ r)) found _ (λ i e.
@@ -249,5 +245,5 @@ fault-within zero room l t r after le j = absurd (omega (arith, le))
 fault-within (suc n) room l t r after le j = fault-step n room (fault-within n room) l t r after le j
 
 -- an expression has the first fault of what stands before an operator and behind it
-pub joint-fault : (room : ℕ) (l : Tokens) (t : Token) (r : Tokens) (after : Place) → IsJoint l t → fault (cut room (l ++ t ∷ r) after) ≡ or_else (fault (cut room l t.place)) (fault (cut room r after))
+pub joint-fault : (room : ℕ) (l : Tokens) (t : Token) (r : Tokens) (after : Place) → IsJoint l t → fault (expression_of room (l ++ t ∷ r) after) ≡ or_else (fault (expression_of room l t.place)) (fault (expression_of room r after))
 joint-fault room l t r after j = fault-within (suc (length l + length r)) room l t r after (omega arith) j

@@ -6,25 +6,26 @@ use Rattle.std.proofs.lemmas.Bool.Decides.{nat_tests}
 use Rattle.std.proofs.lemmas.Option.{none-some, same_Some}
 use Rattle.std.proofs.lemmas.List.{append-nil, take-append-drop, drop-drop, drop_all}
 use Rattle.std.proofs.Math.Seq.{take-length, take-append_seam, drop-append_seam}
-use Rattle.c_mean.specs.declared.place.Place.{Place}
-use Rattle.c_mean.specs.declared.token.Token.{Token}
-use Rattle.c_mean.specs.declared.expression.BinaryOp.{BinaryOp}
-use Rattle.c_mean.specs.declared.expression.Expr.{Expr}
-use Rattle.c_mean.specs.declared.expression.ExprKind.TheVariants as k
-use Rattle.c_mean.specs.declared.refusal.CFault.{CFault}
-use Rattle.c_mean.specs.declared.refusal.CFault.TheVariants.{Fault, Memory}
-use Rattle.c_mean.specs.Refusal.{Refusal, Gives}
-use Rattle.c_mean.specs.MacroDefinition.{or_else}
-use Rattle.c_mean.specs.Operators.{Leveled, operator}
-use Rattle.c_mean.specs.Brackets.{depth_after}
-use Rattle.c_mean.specs.StatementCut.{place_at}
-use Rattle.c_mean.specs.ExpressionCut.{Before, start, operand, behind, is_operand, has_level, last_from, node, binary_of, cut}
-use Rattle.c_mean.specs.ExpressionPart.{depth_over, before_over}
-use Rattle.c_mean.proofs.ExpressionSteps.{cut-some}
-use Rattle.c_mean.proofs.ExpressionTokens.{last_from-append, depth_over-append, before_over-append, IsFlat, operator-flat, operator-level, loosest-is}
+use Rattle.c_text.specs.declared.place.Place.{Place}
+use Rattle.c_text.specs.declared.token.Token.{Token}
+use Rattle.c_tree.specs.declared.expression.BinaryOp.{BinaryOp}
+use Rattle.c_tree.specs.declared.expression.Expr.{Expr}
+use Rattle.c_tree.specs.declared.expression.ExprKind.TheVariants as k
+use Rattle.c_text.specs.declared.refusal.CFault.{CFault}
+use Rattle.c_text.specs.declared.refusal.CFault.TheVariants.{Fault, Memory}
+use Rattle.c_text.specs.Refusal.{Refusal, Gives}
+use Rattle.cg_out.specs.Words.{or_else}
+use Rattle.c_tree.specs.Operators.{Leveled, operator}
+use Rattle.c_tree.specs.Brackets.{depth_after}
+use Rattle.c_tree.specs.Sequence.{place_at}
+use Rattle.c_tree.specs.ExpressionCut.{Before, start, operand, behind, is_operand, has_level, last_from, node, binary_of, expression_of}
+use Rattle.c_tree.specs.TokenRun.{depth_over, before_over}
+use Rattle.c_tree.proofs.ExpressionSteps.{expression_of-some}
+use Rattle.c_tree.proofs.ExpressionTokens.{last_from-append, depth_over-append, before_over-append, IsFlat, operator-flat, operator-level, loosest-is}
 use Rattle.c_expression.specs.At.{IsAt, IsInfixAt, StopsAt, Stops}
 use Rattle.c_expression.specs.Joint.{cuts_here, IsJoint, IsTight, IsJointless, EndsAt, IsFirstJoint, Grown, GrownAll, Faults}
-use Rattle.c_expression.proofs.Commas.{both, is-zero, at-drop}
+use Rattle.cg_out.proofs.WordLaws.{both}
+use Rattle.c_expression.proofs.Commas.{is-zero, at-drop}
 use Rattle.c_expression.proofs.Growing.{take-next, taken-more, at-within}
 use Rattle.c_expression.proofs.FirstFault.{is-operand, joint-fault, fault}
 
@@ -133,9 +134,9 @@ module _ (room bound level : ℕ) (op : BinaryOp) (p q : List Token) (t : Token)
       let z : 0 + length p ≡ length p = omega arith in
       last-join level 0 (omega arith) ∙ ap (λ c. or_else (cond c (Some (0 + length p)) None) (last_from level 0 0 start p)) same ∙ ap Some z
 
-  pub join-cuts : cut room p t.place ≡ Ok a → cut room q after ≡ Ok b → cut room (p ++ t ∷ q) after ≡ Ok (node t.place (k.Binary op a b))
+  pub join-cuts : expression_of room p t.place ≡ Ok a → expression_of room q after ≡ Ok b → expression_of room (p ++ t ∷ q) after ≡ Ok (node t.place (k.Binary op a b))
   join-cuts e f =
-      cut-some room (p ++ t ∷ q) after (length p) (sym (loosest-is (p ++ t ∷ q) (length p) level (λ l h. join-none l 0 h) join-last below))
+      expression_of-some room (p ++ t ∷ q) after (length p) (sym (loosest-is (p ++ t ∷ q) (length p) level (λ l h. join-none l 0 h) join-last below))
       ∙ rw (take-append_seam, drop-append_seam, e, f) (ap (λ o. binary_of o t.place a b) is)
 
 -- ---- climbing
@@ -155,18 +156,18 @@ module _ (room least : ℕ) (after : Place) (ts : List Token) (n : ℕ) (a : Exp
   next : EndsAt (g.bound + 1) (take n ts) (at.token ∷ drop (n + 1) ts)
   next = subst (EndsAt (g.bound + 1) (take n ts)) at.at.is g.ends
 
-  left-cuts : cut room (take n ts) at.token.place ≡ Ok a
-  left-cuts = ap (λ rest. cut room (take n ts) (place_at rest after)) (sym at.at.is) ∙ g.cuts
+  left-cuts : expression_of room (take n ts) at.token.place ≡ Ok a
+  left-cuts = ap (λ rest. expression_of room (take n ts) (place_at rest after)) (sym at.at.is) ∙ g.cuts
 
   whole : ts ≡ take n ts ++ at.token ∷ drop (n + 1) ts
   whole = sym (take-append-drop n ts) ∙ ap (λ rest. take n ts ++ rest) at.at.is
 
   -- the right side has a fault
-  pub fails-right : (f : Refusal) → cut room (drop (n + 1) ts) after ≡ Err f → cut room ts after ≡ Err f
+  pub fails-right : (f : Refusal) → expression_of room (drop (n + 1) ts) after ≡ Err f → expression_of room ts after ≡ Err f
   fails-right f e =
       let parts = joint-fault room (take n ts) at.token (drop (n + 1) ts) after next.joint in
-      is-err (cut room ts after) f
-      (ap (λ us. fault (cut room us after)) whole ∙ parts ∙ ap (λ r. or_else (fault r) (fault (cut room (drop (n + 1) ts) after))) left-cuts ∙ ap fault e)
+      is-err (expression_of room ts after) f
+      (ap (λ us. fault (expression_of room us after)) whole ∙ parts ∙ ap (λ r. or_else (fault r) (fault (expression_of room (drop (n + 1) ts) after))) left-cuts ∙ ap fault e)
 
   -- both sides and the operator
   pub grown-more : (more : ℕ) (b : Expr) → least ≤ level → GrownAll room (level + 1) after (drop (n + 1) ts) more b → Grown room least after ts (n + 1 + more) (node place (k.Binary op a b))
@@ -182,7 +183,7 @@ module _ (room least : ℕ) (after : Place) (ts : List Token) (n : ℕ) (a : Exp
       let cuts = join-cuts room g.bound level op p q t a b (place_at (drop more (drop (n + 1) ts)) after) next.joint at.operates (omega (arith, below_bound)) g.tight right.tight left-cuts right.cuts in
       record {
         within = omega (arith, right.within, length-drop (n + 1) ts, at-within n ts t at.at);
-        cuts = (λ i. cut room (parts i) (place_at (rest i) after)) ∙ cuts ∙ ap (λ x. Ok (node x (k.Binary op a b))) at.place_is;
+        cuts = (λ i. expression_of room (parts i) (place_at (rest i) after)) ∙ cuts ∙ ap (λ x. Ok (node x (k.Binary op a b))) at.place_is;
         bound = level;
         above = le;
         tight = subst (IsTight level) (sym parts) (join-tight room g.bound level op p q t a b after next.joint at.operates (omega (arith, below_bound)) g.tight right.tight);
@@ -207,21 +208,21 @@ none-left : (ls rest : List Token) → EndsAt 0 ls rest → rest ≡ []
 none-left ls [] ends = refl
 none-left ls (t ∷ rest) ends = absurd (omega (arith, ends.looser))
 
-pub all-cut : (room : ℕ) (after : Place) (ts : List Token) (n : ℕ) (e : Expr) → GrownAll room 0 after ts n e → cut room ts after ≡ Ok e
+pub all-cut : (room : ℕ) (after : Place) (ts : List Token) (n : ℕ) (e : Expr) → GrownAll room 0 after ts n e → expression_of room ts after ≡ Ok e
 all-cut room after ts n e g =
     let none = none-left (take n ts) (drop n ts) g.ends in
     let all : take n ts ≡ ts = sym (append-nil (take n ts)) ∙ ap (λ rest. take n ts ++ rest) (sym none) ∙ take-append-drop n ts in
-    (λ i. cut room (sym all i) (place_at (sym none i) after)) ∙ g.cuts
+    (λ i. expression_of room (sym all i) (place_at (sym none i) after)) ∙ g.cuts
 
 -- ---- an operand
 
-pub last-operand : (room : ℕ) (after : Place) (ts : List Token) (e : Expr) → IsJointless ts → cut room ts after ≡ Ok e → Grown room 9 after ts (length ts) e
+pub last-operand : (room : ℕ) (after : Place) (ts : List Token) (e : Expr) → IsJointless ts → expression_of room ts after ≡ Ok e → Grown room 9 after ts (length ts) e
 last-operand room after ts e tight is =
     let all : take (length ts) ts ≡ ts = take-length ts in
     let none : drop (length ts) ts ≡ [] = drop_all (length ts) ts (omega arith) in
     record {
       within = omega arith;
-      cuts = (λ i. cut room (all i) (place_at (none i) after)) ∙ is;
+      cuts = (λ i. expression_of room (all i) (place_at (none i) after)) ∙ is;
       bound = 9;
       above = omega arith;
       tight = subst IsJointless (sym all) tight;
@@ -232,32 +233,32 @@ last-operand room after ts e tight is =
 at-place : (ts : List Token) (n : ℕ) (d t : Token) → IsAt n ts t → (get_or ts n d).place ≡ t.place
 at-place ts n d t at = ap (λ x. x.place) (at-drop n ts t (drop (n + 1) ts) d at.is).0
 
-pub first-operand : (room : ℕ) (after : Place) (ts : List Token) (n : ℕ) (d : Token) (e : Expr) → n ≤ length ts → IsFirstJoint n ts → cut room (take n ts) (get_or ts n d).place ≡ Ok e → Grown room 9 after ts n e
+pub first-operand : (room : ℕ) (after : Place) (ts : List Token) (n : ℕ) (d : Token) (e : Expr) → n ≤ length ts → IsFirstJoint n ts → expression_of room (take n ts) (get_or ts n d).place ≡ Ok e → Grown room 9 after ts n e
 first-operand room after ts n d e le j is =
     record {
       within = le;
-      cuts = ap (λ rest. cut room (take n ts) (place_at rest after)) j.at.is ∙ ap (λ p. cut room (take n ts) p) (sym (at-place ts n d j.token j.at)) ∙ is;
+      cuts = ap (λ rest. expression_of room (take n ts) (place_at rest after)) j.at.is ∙ ap (λ p. expression_of room (take n ts) p) (sym (at-place ts n d j.token j.at)) ∙ is;
       bound = 9;
       above = omega arith;
       tight = j.first;
       ends = subst (EndsAt 10 (take n ts)) (sym j.at.is) (record { joint = j.joint; looser = omega (arith, operator-level j.token.kind j.joint.leveled j.joint.operates) });
     }
 
-fails-left : (room : ℕ) (after : Place) (ts : List Token) (n : ℕ) (d : Token) (f : Refusal) → IsFirstJoint n ts → cut room (take n ts) (get_or ts n d).place ≡ Err f → cut room ts after ≡ Err f
+fails-left : (room : ℕ) (after : Place) (ts : List Token) (n : ℕ) (d : Token) (f : Refusal) → IsFirstJoint n ts → expression_of room (take n ts) (get_or ts n d).place ≡ Err f → expression_of room ts after ≡ Err f
 fails-left room after ts n d f j is =
     let whole : ts ≡ take n ts ++ j.token ∷ drop (n + 1) ts = sym (take-append-drop n ts) ∙ ap (λ rest. take n ts ++ rest) j.at.is in
     let parts = joint-fault room (take n ts) j.token (drop (n + 1) ts) after j.joint in
-    is-err (cut room ts after) f
-    (ap (λ us. fault (cut room us after)) whole ∙ parts
-    ∙ ap (λ r. or_else (fault r) (fault (cut room (drop (n + 1) ts) after))) (ap (λ p. cut room (take n ts) p) (sym (at-place ts n d j.token j.at)) ∙ is))
+    is-err (expression_of room ts after) f
+    (ap (λ us. fault (expression_of room us after)) whole ∙ parts
+    ∙ ap (λ r. or_else (fault r) (fault (expression_of room (drop (n + 1) ts) after))) (ap (λ p. expression_of room (take n ts) p) (sym (at-place ts n d j.token j.at)) ∙ is))
 
 -- ---- faults
 
-pub fault-left : (room : ℕ) (after : Place) (ts : List Token) (n : ℕ) (d : Token) (x : CFault) → IsFirstJoint n ts → Gives {X = Expr} {Y = Expr} (λ e. e) (Err x) (cut room (take n ts) (get_or ts n d).place) → Faults {X = Expr × ℕ} (Err x) (cut room ts after)
+pub fault-left : (room : ℕ) (after : Place) (ts : List Token) (n : ℕ) (d : Token) (x : CFault) → IsFirstJoint n ts → Gives {X = Expr} {Y = Expr} (λ e. e) (Err x) (expression_of room (take n ts) (get_or ts n d).place) → Faults {X = Expr × ℕ} (Err x) (expression_of room ts after)
 fault-left room after ts n d (Fault kind place) j e = fails-left room after ts n d (record { kind = kind; place = place }) j e
 fault-left room after ts n d Memory j e = tt
 
 pub fault-right : (room least : ℕ) (after : Place) (ts : List Token) (n : ℕ) (a : Expr) (g : Grown room least after ts n a) (level : ℕ) (op : BinaryOp) (place : Place) (at : IsInfixAt n ts level op place) (x : CFault)
-    → Faults {X = Expr × ℕ} (Err x) (cut room (drop (n + 1) ts) after) → Faults {X = Expr × ℕ} (Err x) (cut room ts after)
+    → Faults {X = Expr × ℕ} (Err x) (expression_of room (drop (n + 1) ts) after) → Faults {X = Expr × ℕ} (Err x) (expression_of room ts after)
 fault-right room least after ts n a g level op place at (Fault kind p) e = fails-right room least after ts n a g level op place at (record { kind = kind; place = p }) e
 fault-right room least after ts n a g level op place at Memory e = tt

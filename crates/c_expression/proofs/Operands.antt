@@ -3,29 +3,28 @@ use Rattle.std.proofs.Common.{◌≡◌, ℕ, zero, suc, ◌+◌, ◌==◌, List
 use Rattle.std.specs.Prelude.{is_some}
 use Rattle.std.proofs.lemmas.Option.{none-some, same_Some}
 use Rattle.std.proofs.Math.Seq.{drop-append_seam}
-use Rattle.c_mean.specs.declared.place.Place.{Place}
-use Rattle.c_mean.specs.declared.token.Spelled.{Spelled}
-use Rattle.c_mean.specs.declared.token.Token.{Token}
-use Rattle.c_mean.specs.declared.token.TokenKind.{TokenKind}
-use Rattle.c_mean.specs.declared.token.TokenKind.TheVariants.{Word, Constant as Number, Quoted, Mark, TypeName, Null, Memset}
-use Rattle.c_mean.specs.declared.symbol.Bracket.TheVariants.{Round}
-use Rattle.c_mean.specs.declared.symbol.Punctuator.{Punctuator}
-use Rattle.c_mean.specs.declared.symbol.Punctuator.TheVariants as mark
-use Rattle.c_mean.specs.declared.expression.UnaryOp.{UnaryOp}
-use Rattle.c_mean.specs.declared.expression.Expr.{Expr}
-use Rattle.c_mean.specs.declared.refusal.CFault.{CFault}
-use Rattle.c_mean.specs.declared.refusal.CFault.TheVariants.{Fault, Memory}
-use Rattle.c_mean.specs.Refusal.{Refusal, Gives}
-use Rattle.c_mean.specs.Sequence.{◌>>=◌}
-use Rattle.c_mean.specs.MacroDefinition.{or_else}
-use Rattle.c_mean.specs.Symbol.{mark_of, name_of}
-use Rattle.c_mean.specs.Brackets.{mark_opens, mark_closes, depth_by, depth_after, opens, is_bracket, closing_from, too_deep}
-use Rattle.c_mean.specs.Operators.{prefix}
-use Rattle.c_mean.specs.TypeName.{spelled_of, kinds_of, is_type_word}
-use Rattle.c_mean.specs.ExpressionCut.{Before, start, bracket, operand, round_closed, mark_behind, word_behind, behind, is_cut, last_from, cut, alone, prefixed, primary, at_mark, round, round_by}
-use Rattle.c_mean.specs.ExpressionPart.{depth_over, before_over}
-use Rattle.c_mean.proofs.ExpressionSteps.{cut-none}
-use Rattle.c_mean.proofs.ExpressionTokens.{last_from-append, prefix-is-flat, loosest-none, skip-first, suc-not-zero}
+use Rattle.c_text.specs.declared.place.Place.{Place}
+use Rattle.c_text.specs.declared.token.Spelled.{Spelled}
+use Rattle.c_text.specs.declared.token.Token.{Token}
+use Rattle.c_text.specs.declared.token.TokenKind.{TokenKind}
+use Rattle.c_text.specs.declared.token.TokenKind.TheVariants.{Word, Constant as Number, Quoted, Mark, TypeName, Null, Memset}
+use Rattle.c_tree.specs.declared.symbol.Bracket.TheVariants.{Round}
+use Rattle.c_tree.specs.declared.symbol.Punctuator.{Punctuator}
+use Rattle.c_tree.specs.declared.symbol.Punctuator.TheVariants as mark
+use Rattle.c_tree.specs.declared.expression.UnaryOp.{UnaryOp}
+use Rattle.c_tree.specs.declared.expression.Expr.{Expr}
+use Rattle.c_text.specs.declared.refusal.CFault.{CFault}
+use Rattle.c_text.specs.declared.refusal.CFault.TheVariants.{Fault, Memory}
+use Rattle.c_text.specs.Refusal.{Refusal, Gives}
+use Rattle.cg_out.specs.Words.{◌>>=◌, or_else}
+use Rattle.c_tree.specs.Symbol.{mark_of, name_of}
+use Rattle.c_tree.specs.Brackets.{mark_opens, mark_closes, depth_by, depth_after, opens, is_bracket, closing_from, too_deep}
+use Rattle.c_tree.specs.Operators.{prefix}
+use Rattle.c_tree.specs.TypeName.{spelled_of, kinds_of, is_type_word}
+use Rattle.c_tree.specs.ExpressionCut.{Before, start, bracket, operand, round_closed, mark_behind, word_behind, behind, is_cut, last_from, expression_of, operand_of, prefixed, primary, at_mark, round, round_by}
+use Rattle.c_tree.specs.TokenRun.{depth_over, before_over}
+use Rattle.c_tree.proofs.ExpressionSteps.{expression_of-none}
+use Rattle.c_tree.proofs.ExpressionTokens.{last_from-append, prefix-is-flat, loosest-none, skip-first, suc-not-zero}
 use Rattle.c_expression.specs.declared.prefixes.PrefixKind.TheVariants.{Sign, Cast}
 use Rattle.c_expression.specs.declared.prefixes.PrefixOp.{PrefixOp}
 use Rattle.c_expression.specs.Prefixes.{with_prefix, with_prefixes}
@@ -135,7 +134,7 @@ sign-before room t rest after u is =
     let flat = prefix-is-flat t.kind u is in
     record {
       within = omega arith;
-      cuts = ap (λ o. prefixed cut room o t rest after) is;
+      cuts = ap (λ o. prefixed expression_of room o t rest after) is;
       jointless = jointless-behind (t ∷ []) rest (flat.depth 0) (subst Started (sym (flat.after start)) tt);
     }
 
@@ -192,12 +191,12 @@ closing : (n d at : ℕ) (ts : List Token) → closing_from n (suc d) ts ≡ Som
 closing n d at [] e = absurd (none-some at e)
 closing n d at (t ∷ ts) e = closing-by n d at t ts (depth_after t.kind (suc d)) refl e (λ k m f. closing (n + 1) k at ts f)
 
-primary-round : (k : TokenKind) (room : ℕ) (t : Token) (rest : List Token) (after : Place) → t.kind ≡ k → is_bracket Round (opens k) ≡ true → primary cut room k t rest after ≡ round cut room t.place (closing_from 0 1 rest) rest after
-primary-round (Mark w) room t rest after e is = ap (λ b. at_mark cut room b t.place rest after) (ap (λ x. is_bracket Round (opens x)) e ∙ is)
+primary-round : (k : TokenKind) (room : ℕ) (t : Token) (rest : List Token) (after : Place) → t.kind ≡ k → is_bracket Round (opens k) ≡ true → primary expression_of room k t rest after ≡ round expression_of room t.place (closing_from 0 1 rest) rest after
+primary-round (Mark w) room t rest after e is = ap (λ b. at_mark expression_of room b t.place rest after) (ap (λ x. is_bracket Round (opens x)) e ∙ is)
 primary-round _ room t rest after e is = cc
 
-alone-round : (room : ℕ) (t : Token) (rest : List Token) (after : Place) → prefix t.kind ≡ None → is_bracket Round (opens t.kind) ≡ true → alone cut room (t ∷ rest) after ≡ round cut room t.place (closing_from 0 1 rest) rest after
-alone-round room t rest after bare is = ap (λ o. prefixed cut room o t rest after) bare ∙ primary-round t.kind room t rest after refl is
+alone-round : (room : ℕ) (t : Token) (rest : List Token) (after : Place) → prefix t.kind ≡ None → is_bracket Round (opens t.kind) ≡ true → operand_of expression_of room (t ∷ rest) after ≡ round expression_of room t.place (closing_from 0 1 rest) rest after
+alone-round room t rest after bare is = ap (λ o. prefixed expression_of room o t rest after) bare ∙ primary-round t.kind room t rest after refl is
 
 open-depth : (m : Option Punctuator) → is_bracket Round (mark_opens m) ≡ true → depth_by (mark_opens m) (mark_closes m) 0 ≡ 1
 open-depth (Some mark.OpenParen) e = refl
@@ -214,10 +213,10 @@ cast-before room t rest after at to bare is closes spells some_room =
       within = omega (arith, n, ap length c.is, length-append c.xs c.ys);
       cuts =
           alone-round room t rest after bare is
-          ∙ ap (λ o. round cut room t.place o rest after) closes
-          ∙ ap (λ o. round_by cut room t.place o at rest after) spells
-          ∙ ap (λ b. cond b (Err (too_deep t.place)) (cut room (drop (at + 1) rest) after) >>= (λ e. Ok (with_prefix (record { place = t.place; kind = Cast to }) e))) some_room
-          ∙ ap (λ us. cut room us after >>= (λ e. Ok (with_prefix (record { place = t.place; kind = Cast to }) e))) (sym same);
+          ∙ ap (λ o. round expression_of room t.place o rest after) closes
+          ∙ ap (λ o. round_by expression_of room t.place o at rest after) spells
+          ∙ ap (λ b. cond b (Err (too_deep t.place)) (expression_of room (drop (at + 1) rest) after) >>= (λ e. Ok (with_prefix (record { place = t.place; kind = Cast to }) e))) some_room
+          ∙ ap (λ us. expression_of room us after >>= (λ e. Ok (with_prefix (record { place = t.place; kind = Cast to }) e))) (sym same);
       jointless = λ tight. subst IsJointless (sym behind_all)
           (jointless-behind (t ∷ c.xs) c.ys (ap (λ d. depth_over d c.xs) (open-depth (mark_of t.kind) is) ∙ c.flat) (c.ended (behind t.kind start)) (subst IsJointless (ap (λ us. t ∷ us) c.is) tight));
     }
@@ -229,24 +228,24 @@ pub last-prefix : (ps : List PrefixOp) (p : PrefixOp) (e : Expr) → with_prefix
 last-prefix [] p e = refl
 last-prefix (q ∷ ps) p e = ap (with_prefix q) (last-prefix ps p e)
 
-pub alone-cut : (room : ℕ) (ts : List Token) (after : Place) → IsJointless ts → cut room ts after ≡ alone cut room ts after
-alone-cut room ts after tight = cut-none room ts after (sym (loosest-none ts (λ l h. tight.none l 0 h)))
+pub alone-cut : (room : ℕ) (ts : List Token) (after : Place) → IsJointless ts → expression_of room ts after ≡ operand_of expression_of room ts after
+alone-cut room ts after tight = expression_of-none room ts after (sym (loosest-none ts (λ l h. tight.none l 0 h)))
 
 pub behind-more : (r : Result Expr Refusal) (ps : List PrefixOp) (p : PrefixOp) → ((r >>= λ e. Ok (with_prefix p e)) >>= (λ e. Ok (with_prefixes ps e))) ≡ (r >>= λ e. Ok (with_prefixes (ps ++ p ∷ []) e))
 behind-more (Ok e) ps p = ap Ok (sym (last-prefix ps p e))
 behind-more (Err f) ps p = refl
 
 -- what a front means, where the operand has these before it
-module _ (room : ℕ) (whole left : List Token) (after : Place) (ps : List PrefixOp) (tight : IsJointless left) (told : cut room whole after ≡ (cut room left after >>= λ e. Ok (with_prefixes ps e))) where
-  alone-told : cut room whole after ≡ (alone cut room left after >>= λ e. Ok (with_prefixes ps e))
+module _ (room : ℕ) (whole left : List Token) (after : Place) (ps : List PrefixOp) (tight : IsJointless left) (told : expression_of room whole after ≡ (expression_of room left after >>= λ e. Ok (with_prefixes ps e))) where
+  alone-told : expression_of room whole after ≡ (operand_of expression_of room left after >>= λ e. Ok (with_prefixes ps e))
   alone-told = told ∙ ap (λ r. r >>= (λ e. Ok (with_prefixes ps e))) (alone-cut room left after tight)
 
-  pub told-before : (p : PrefixOp) (more : ℕ) → IsBefore room left after p more → cut room whole after ≡ (cut room (drop (more + 1) left) after >>= λ e. Ok (with_prefixes (ps ++ p ∷ []) e))
-  told-before p more b = alone-told ∙ ap (λ r. r >>= (λ e. Ok (with_prefixes ps e))) b.cuts ∙ behind-more (cut room (drop (more + 1) left) after) ps p
+  pub told-before : (p : PrefixOp) (more : ℕ) → IsBefore room left after p more → expression_of room whole after ≡ (expression_of room (drop (more + 1) left) after >>= λ e. Ok (with_prefixes (ps ++ p ∷ []) e))
+  told-before p more b = alone-told ∙ ap (λ r. r >>= (λ e. Ok (with_prefixes ps e))) b.cuts ∙ behind-more (expression_of room (drop (more + 1) left) after) ps p
 
-  pub told-whole : (tree : Expr) → alone cut room left after ≡ Ok tree → cut room whole after ≡ Ok (with_prefixes ps tree)
+  pub told-whole : (tree : Expr) → operand_of expression_of room left after ≡ Ok tree → expression_of room whole after ≡ Ok (with_prefixes ps tree)
   told-whole tree e = alone-told ∙ ap (λ r. r >>= (λ x. Ok (with_prefixes ps x))) e
 
-  pub told-fault : (x : CFault) → Faults {X = Expr} (Err x) (alone cut room left after) → Gives {X = Expr} {Y = Expr} (λ e. e) (Err x) (cut room whole after)
+  pub told-fault : (x : CFault) → Faults {X = Expr} (Err x) (operand_of expression_of room left after) → Gives {X = Expr} {Y = Expr} (λ e. e) (Err x) (expression_of room whole after)
   told-fault (Fault kind place) e = alone-told ∙ ap (λ r. r >>= (λ y. Ok (with_prefixes ps y))) e
   told-fault Memory e = tt

@@ -1,9 +1,9 @@
 -- Single tokens, by how many stand before them.
 use Rattle.std.specs.Prelude.{◌≡◌, ℕ, ◌+◌, ◌<◌, List, [], ◌∷◌, drop, Option, Some, None}
-use Rattle.c_mean.specs.declared.place.Place.{Place}
-use Rattle.c_mean.specs.declared.token.Token.{Token}
-use Rattle.c_mean.specs.declared.expression.BinaryOp.{BinaryOp}
-use Rattle.c_mean.specs.Operators.{Leveled, operator}
+use Rattle.c_text.specs.declared.place.Place.{Place}
+use Rattle.c_text.specs.declared.token.Token.{Token}
+use Rattle.c_tree.specs.declared.expression.BinaryOp.{BinaryOp}
+use Rattle.c_tree.specs.Operators.{Leveled, operator}
 
 -- behind the first n tokens stands this one
 pub record IsAt (n : ℕ) (ts : List Token) (t : Token) : Type 0 where

@@ -1,8 +1,8 @@
 -- What stands before a token, by the index from which a type may be spelled.
 use Rattle.std.specs.Prelude.{ℕ, ◌-◌, ◌≤◌, List, take, drop}
-use Rattle.c_mean.specs.declared.token.Token.{Token}
-use Rattle.c_mean.specs.TypeName.{kinds_of}
-use Rattle.c_mean.specs.ExpressionCut.{Before as Means, start, bracket, operand}
+use Rattle.c_text.specs.declared.token.Token.{Token}
+use Rattle.c_tree.specs.TypeName.{kinds_of}
+use Rattle.c_tree.specs.ExpressionCut.{Before as Means, start, bracket, operand}
 use Rattle.c_expression.specs.declared.joints.Before.{Before}
 use Rattle.c_expression.specs.declared.joints.Before.TheVariants.{Start, Bracket, Operand}
 

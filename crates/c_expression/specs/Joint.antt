@@ -1,15 +1,15 @@
 -- Operators between two operands, outside brackets, and the tokens between them.
 use Rattle.std.specs.Prelude.{◌≡◌, ℕ, ◌+◌, ◌<◌, ◌≤◌, Bool, ◌&&◌, ◌==◌, is_some, List, [], ◌∷◌, length, take, drop, None, Some, Result, Ok, Err}
-use Rattle.c_mean.specs.declared.place.Place.{Place}
-use Rattle.c_mean.specs.declared.token.Token.{Token}
-use Rattle.c_mean.specs.declared.expression.Expr.{Expr}
-use Rattle.c_mean.specs.Operators.{Leveled, operator}
-use Rattle.c_mean.specs.StatementCut.{place_at}
-use Rattle.c_mean.specs.declared.refusal.CFault.{CFault}
-use Rattle.c_mean.specs.declared.refusal.CFault.TheVariants.{Fault, Memory}
-use Rattle.c_mean.specs.Refusal.{Refusal}
-use Rattle.c_mean.specs.ExpressionCut.{Before, start, operand, is_operand, last_from, cut}
-use Rattle.c_mean.specs.ExpressionPart.{depth_over, before_over}
+use Rattle.c_text.specs.declared.place.Place.{Place}
+use Rattle.c_text.specs.declared.token.Token.{Token}
+use Rattle.c_tree.specs.declared.expression.Expr.{Expr}
+use Rattle.c_tree.specs.Operators.{Leveled, operator}
+use Rattle.c_tree.specs.Sequence.{place_at}
+use Rattle.c_text.specs.declared.refusal.CFault.{CFault}
+use Rattle.c_text.specs.declared.refusal.CFault.TheVariants.{Fault, Memory}
+use Rattle.c_text.specs.Refusal.{Refusal}
+use Rattle.c_tree.specs.ExpressionCut.{Before, start, operand, is_operand, last_from, expression_of}
+use Rattle.c_tree.specs.TokenRun.{depth_over, before_over}
 use Rattle.c_expression.specs.At.{IsAt}
 
 -- a token between two operands, outside brackets, that is an operator
@@ -53,7 +53,7 @@ pub record IsFirstJoint (n : ℕ) (ts : List Token) : Type 0 where
 -- the first n tokens are cut into the tree, up to an operator that is no tighter than their loosest
 pub record Grown (room least : ℕ) (after : Place) (ts : List Token) (n : ℕ) (e : Expr) : Type 0 where
   pub within : n ≤ length ts
-  pub cuts : cut room (take n ts) (place_at (drop n ts) after) ≡ Ok e
+  pub cuts : expression_of room (take n ts) (place_at (drop n ts) after) ≡ Ok e
   pub bound : ℕ
   pub above : least ≤ bound
   pub tight : IsTight bound (take n ts)
@@ -62,7 +62,7 @@ pub record Grown (room least : ℕ) (after : Place) (ts : List Token) (n : ℕ) 
 -- the same, up to an operator that is looser than the level
 pub record GrownAll (room least : ℕ) (after : Place) (ts : List Token) (n : ℕ) (e : Expr) : Type 0 where
   pub within : n ≤ length ts
-  pub cuts : cut room (take n ts) (place_at (drop n ts) after) ≡ Ok e
+  pub cuts : expression_of room (take n ts) (place_at (drop n ts) after) ≡ Ok e
   pub tight : IsTight least (take n ts)
   pub ends : EndsAt least (take n ts) (drop n ts)
 

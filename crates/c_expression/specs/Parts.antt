@@ -1,11 +1,11 @@
 -- The tokens behind a comma, if there is one.
 use Rattle.std.specs.Prelude.{ℕ, ◌+◌, List, [], length, Option, Some, None}
 use Rattle.std.specs.Borrow.{Bor}
-use Rattle.c_mean.specs.declared.place.Place.{Place}
-use Rattle.c_mean.specs.declared.token.Token.{Token}
-use Rattle.c_mean.specs.ExpressionCut.{Part, parts}
+use Rattle.c_text.specs.declared.place.Place.{Place}
+use Rattle.c_text.specs.declared.token.Token.{Token}
+use Rattle.c_tree.specs.ExpressionCut.{Delimited, parts}
 
-abbrev pub parts_left : Place → Option (Bor (List Token)) → List Part
+abbrev pub parts_left : Place → Option (Bor (List Token)) → List Delimited
 parts_left after None = []
 parts_left after (Some ts) = parts after 0 ts.now
 

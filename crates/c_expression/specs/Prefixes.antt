@@ -1,9 +1,9 @@
 -- Prefix operators and casts, which stand before an operand.
 use Rattle.std.specs.Prelude.{List, [], ◌∷◌}
-use Rattle.c_mean.specs.declared.expression.Expr.{Expr}
-use Rattle.c_mean.specs.declared.expression.ExprKind.{ExprKind}
-use Rattle.c_mean.specs.declared.expression.ExprKind.TheVariants as k
-use Rattle.c_mean.specs.ExpressionCut.{node}
+use Rattle.c_tree.specs.declared.expression.Expr.{Expr}
+use Rattle.c_tree.specs.declared.expression.ExprKind.{ExprKind}
+use Rattle.c_tree.specs.declared.expression.ExprKind.TheVariants as k
+use Rattle.c_tree.specs.ExpressionCut.{node}
 use Rattle.c_expression.specs.declared.prefixes.PrefixKind.{PrefixKind}
 use Rattle.c_expression.specs.declared.prefixes.PrefixKind.TheVariants.{Sign, Cast}
 use Rattle.c_expression.specs.declared.prefixes.PrefixOp.{PrefixOp}

@@ -1,8 +1,8 @@
 -- The tokens at which parts end.
 use Rattle.std.specs.Prelude.{Bool, is_some}
-use Rattle.c_mean.specs.declared.token.TokenKind.{TokenKind}
-use Rattle.c_mean.specs.Symbol.{is_colon, is_comma, is_semicolon}
-use Rattle.c_mean.specs.Operators.{assignment}
+use Rattle.c_text.specs.declared.token.TokenKind.{TokenKind}
+use Rattle.c_tree.specs.Symbol.{is_colon, is_comma, is_semicolon}
+use Rattle.c_tree.specs.Operators.{assignment}
 use Rattle.c_expression.specs.declared.brackets.Stop.{Stop}
 use Rattle.c_expression.specs.declared.brackets.Stop.TheVariants.{Assignment, Colon, Comma, Semicolon}
 

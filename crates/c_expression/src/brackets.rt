@@ -1,11 +1,12 @@
 //! Brackets, and what stands outside them.
 ghost use Rattle.std.specs.Prelude.{◌≡◌, ◌+◌, ◌<◌, ◌≤◌, ◌^◌, length, IfSome};
-ghost use Rattle.c_mean.specs.Brackets as spec;
+ghost use Rattle.c_tree.specs.Brackets as spec;
 ghost use Rattle.c_expression.specs.Stop.{stops};
 
 use crate::operators::assignment;
 use crate::symbols::mark;
-use c_mean::{Bracket, Punctuator, Token, TokenKind};
+use c_text::{Token, TokenKind};
+use c_tree::{Bracket, Punctuator};
 
 /// The brackets that a token opens.
 pub fn opens(kind: &TokenKind) -> Option<Bracket>

@@ -2,15 +2,15 @@
 //!
 //! Each token is looked at a fixed number of times for each bracket that is open round it.
 ghost use Rattle.std.specs.Prelude.{◌≡◌, ◌+◌, ◌-◌, ◌<◌, ◌==◌, ◌≤◌, [], ◌∷◌, Some, None, true, false, length, IfOk, IfErr, IfSome, IfNone};
-ghost use Rattle.c_mean.specs.declared.refusal.CKind.TheVariants.{Syntax, TooDeep};
-ghost use Rattle.c_mean.specs.declared.refusal.CFault.TheVariants.{Fault};
-ghost use Rattle.c_mean.specs.Refusal.{Gives};
-ghost use Rattle.c_mean.specs.declared.symbol.Bracket.TheVariants.{Round};
-ghost use Rattle.c_mean.specs.declared.expression.ExprKind.TheVariants as kind;
-ghost use Rattle.c_mean.specs.Brackets as brackets;
-ghost use Rattle.c_mean.specs.Operators as ops;
-ghost use Rattle.c_mean.specs.Symbol as symbols;
-ghost use Rattle.c_mean.specs.ExpressionCut as spec;
+ghost use Rattle.c_text.specs.declared.refusal.CKind.TheVariants.{Syntax, TooDeep};
+ghost use Rattle.c_text.specs.declared.refusal.CFault.TheVariants.{Fault};
+ghost use Rattle.c_text.specs.Refusal.{Gives};
+ghost use Rattle.c_tree.specs.declared.symbol.Bracket.TheVariants.{Round};
+ghost use Rattle.c_tree.specs.declared.expression.ExprKind.TheVariants as kind;
+ghost use Rattle.c_tree.specs.Brackets as brackets;
+ghost use Rattle.c_tree.specs.Operators as ops;
+ghost use Rattle.c_tree.specs.Symbol as symbols;
+ghost use Rattle.c_tree.specs.ExpressionCut as spec;
 ghost use Rattle.c_expression.specs.Joint.{IsJointless, Grown, GrownAll, Faults};
 ghost use Rattle.c_expression.specs.Operand.{IsFrontOf};
 
@@ -21,7 +21,8 @@ use crate::parts::{behind, first_part};
 use crate::prefixes::{PrefixKind, PrefixOp, with_prefixes};
 use crate::symbols::{callee, mark, name};
 use crate::type_names::spelled;
-use c_mean::{Bracket, CFault, CKind, Expr, ExprKind, Place, Punctuator, Token, TokenKind};
+use c_text::{CFault, CKind, Place, Token, TokenKind};
+use c_tree::{Bracket, Expr, ExprKind, Punctuator};
 use cg_out::{Boxed, List, Memory, Text};
 use std::alloc::Global;
 
@@ -76,7 +77,7 @@ fn closed_at<'a>(inner: &'a [Token], rest: &[Token]) -> Option<(&'a [Token], Pla
 /// and `after` is the place of the token behind it.
 #[cycle(cutting)]
 pub fn cut(alloc: Global, tokens: &[Token], room: u32, after: Place) -> Result<Expr, CFault>
-    ensures { Gives (λ e. e) result (spec.cut room tokens.now after) }
+    ensures { Gives (λ e. e) result (spec.expression_of room tokens.now after) }
 {
     let (tree, _) = climb(alloc, tokens, 0, room, after)?;
     Ok(tree)
@@ -94,7 +95,7 @@ fn climb(
 ) -> Result<(Expr, usize), CFault>
     requires { least ≤ 9 }
     ensures ok { IfOk result (λ r. GrownAll room least after tokens.now r.1 r.0) }
-    ensures err { Faults result (spec.cut room tokens.now after) }
+    ensures err { Faults result (spec.expression_of room tokens.now after) }
 {
     let (mut left, mut count) = operand(alloc, tokens, room, after)?;
     while let Some(infix) = infix_at(tokens, count, least) {
@@ -128,7 +129,7 @@ fn operand(
     after: Place,
 ) -> Result<(Expr, usize), CFault>
     ensures ok { IfOk result (λ r. Grown room 9 after tokens.now r.1 r.0) }
-    ensures err { Faults result (spec.cut room tokens.now after) }
+    ensures err { Faults result (spec.expression_of room tokens.now after) }
 {
     match first_joint(tokens) {
         Some(end) => {
@@ -146,7 +147,7 @@ fn operand(
 #[cycle(cutting)]
 fn alone(alloc: Global, tokens: &[Token], room: u32, after: Place) -> Result<Expr, CFault>
     requires { IsJointless tokens.now }
-    ensures { Gives (λ e. e) result (spec.cut room tokens.now after) }
+    ensures { Gives (λ e. e) result (spec.expression_of room tokens.now after) }
 {
     let mut ops = Vec::new(alloc);
     let mut left = tokens;
@@ -178,7 +179,7 @@ fn front_of(
     after: Place,
 ) -> Result<OperandFront, CFault>
     ensures ok { IfOk result (λ f. IsFrontOf f room tokens.now after) }
-    ensures err { Faults result (spec.alone spec.cut room tokens.now after) }
+    ensures err { Faults result (spec.operand_of spec.expression_of room tokens.now after) }
 {
     let [token, rest @ ..] = tokens else {
         return Err(syntax(after));
@@ -204,7 +205,7 @@ fn primary(
     after: Place,
 ) -> Result<Expr, CFault>
     requires { brackets.is_bracket Round (brackets.opens token.now.kind) ≡ false }
-    ensures { Gives (λ e. e) result (spec.primary spec.cut room token.now.kind token.now rest.now after) }
+    ensures { Gives (λ e. e) result (spec.primary spec.expression_of room token.now.kind token.now rest.now after) }
 {
     let place = token.place;
     match &token.kind {
@@ -231,7 +232,7 @@ pub fn is_round(kind: &TokenKind) -> bool
 /// What begins with a name.
 #[cycle(cutting)]
 fn named(alloc: Global, token: &Token, rest: &[Token], room: u32) -> Result<Expr, CFault>
-    ensures { Gives (λ e. e) result (spec.named spec.cut room token.now rest.now) }
+    ensures { Gives (λ e. e) result (spec.operand_named spec.expression_of room token.now rest.now) }
 {
     let place = token.place;
     let [second, behind @ ..] = rest else {
@@ -246,7 +247,7 @@ fn named(alloc: Global, token: &Token, rest: &[Token], room: u32) -> Result<Expr
                 return Err(syntax(place));
             };
             let args = arguments(alloc, inner, inside(room, second.place)?, close)?;
-            let function = Text::copy_of(alloc, function)?;
+            let function = function.copied(alloc)?;
             Ok(Expr {
                 place,
                 kind: ExprKind::Call { function, args },
@@ -321,7 +322,7 @@ fn round(
     requires opens { brackets.is_bracket Round (brackets.opens token.now.kind) ≡ true }
     requires bare { ops.prefix token.now.kind ≡ None }
     ensures ok { IfOk result (λ f. IsFrontOf f room (token.now ∷ rest.now) after) }
-    ensures err { Faults result (spec.alone spec.cut room (token.now ∷ rest.now) after) }
+    ensures err { Faults result (spec.operand_of spec.expression_of room (token.now ∷ rest.now) after) }
 {
     let place = token.place;
     let Some(at) = closing(rest) else {
@@ -350,7 +351,7 @@ pub fn arguments(
     room: u32,
     after: Place,
 ) -> Result<List<Expr>, CFault>
-    ensures { Gives (λ es. es) result (spec.arguments spec.cut room tokens.now after) }
+    ensures { Gives (λ es. es) result (spec.arguments spec.expression_of room tokens.now after) }
 {
     let mut args = List::new(alloc);
     let mut left = some_unless_empty(tokens);

@@ -1,7 +1,7 @@
 //! The operators between the operands of an expression.
 ghost use Rattle.std.specs.Prelude.{◌≡◌, ◌+◌, ◌<◌, ◌≤◌, ◌^◌, [], ◌∷◌, length, drop, IfSome, IfNone, ℕ};
 ghost use Rattle.c_expression.specs.At.{IsInfixAt, Stops};
-ghost use Rattle.c_mean.specs.ExpressionCut as spec;
+ghost use Rattle.c_tree.specs.ExpressionCut as spec;
 ghost use Rattle.c_expression.specs.Before.{Tokens, before_of, IsFrom};
 ghost use Rattle.c_expression.specs.Joint.{cuts_here, IsJointless, IsFirstJoint};
 
@@ -9,7 +9,8 @@ use crate::brackets::depth_after;
 use crate::operators::operator;
 use crate::symbols::{mark, name};
 use crate::type_names::{is_type_word, spelled};
-use c_mean::{BinaryOp, Place, Punctuator, Token, TokenKind};
+use c_text::{Place, Token, TokenKind};
+use c_tree::{BinaryOp, Punctuator};
 
 /// What stands before a token.
 #[derive(Clone, Copy, Debug, PartialEq, Eq)]

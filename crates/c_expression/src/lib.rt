@@ -27,8 +27,5 @@ pub use cutting::{arguments, closed, cut, inside, is_round, syntax};
 pub use operators::{assignment, operator, prefix, sign};
 pub use parts::{FirstPart, behind, first_part};
 pub use prefixes::{PrefixKind, PrefixOp, with_prefixes};
-pub use symbols::{callee, keyword, mark, name};
+pub use symbols::{LentCallee, callee, keyword, mark, name};
 pub use type_names::{front_type, is_type_word, spelled};
-
-#[cfg(test)]
-mod tests;

@@ -1,9 +1,10 @@
 //! Operators, and how tight they bind (ISO/IEC 9899:1999, 6.5).
 ghost use Rattle.std.specs.Prelude.{◌≡◌};
-ghost use Rattle.c_mean.specs.Operators as spec;
+ghost use Rattle.c_tree.specs.Operators as spec;
 
 use crate::symbols::mark;
-use c_mean::{AssignOp, BinaryOp, Punctuator, TokenKind, UnaryOp};
+use c_text::TokenKind;
+use c_tree::{AssignOp, BinaryOp, Punctuator, UnaryOp};
 
 /// The level and the operator of a token that may stand between two operands; level 0 is the
 /// loosest, 8 the tightest.

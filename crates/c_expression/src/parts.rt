@@ -1,10 +1,10 @@
 //! What stands between commas.
 ghost use Rattle.std.specs.Prelude.{◌≡◌, ◌+◌, ◌≤◌, ◌<◌, ◌∷◌, length, drop};
-ghost use Rattle.c_mean.specs.ExpressionCut.{parts};
+ghost use Rattle.c_tree.specs.ExpressionCut.{parts};
 ghost use Rattle.c_expression.specs.Parts.{parts_left, count_left};
 
 use crate::brackets::{Stop, first_outside};
-use c_mean::{Place, Token};
+use c_text::{Place, Token};
 
 /// The tokens before the first comma outside brackets.
 #[derive(Drop)]

@@ -2,7 +2,8 @@
 ghost use Rattle.std.specs.Prelude.{◌≡◌, IfOk};
 ghost use Rattle.c_expression.specs.Prefixes.{with_prefix, with_prefixes};
 
-use c_mean::{Expr, ExprKind, Place, Spelled, UnaryOp};
+use c_text::{Place, Spelled};
+use c_tree::{Expr, ExprKind, UnaryOp};
 use cg_out::{Boxed, Memory};
 use std::alloc::Global;
 

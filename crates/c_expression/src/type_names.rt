@@ -1,12 +1,13 @@
 //! The types of integers as tokens spell them (ISO/IEC 9899:1999, 6.7.2 and 7.18.1.1).
 ghost use Rattle.std.specs.Prelude.{◌≡◌, ◌≤◌, length, IfSome};
-ghost use Rattle.c_mean.specs.TypeName as spec;
+ghost use Rattle.c_tree.specs.TypeName as spec;
 
 use crate::symbols::keyword;
-use c_mean::{IntType, Keyword, Spelled, Token, TokenKind};
+use c_text::{IntType, Spelled, Token, TokenKind};
+use c_tree::Keyword;
 
 /// The type that these tokens spell, if they do.
-#[tactic(auto, unfolding(c_mean::specs::TypeName::spelled_of))]
+#[tactic(auto, unfolding(c_tree::specs::TypeName::spelled_of))]
 pub fn spelled(tokens: &[Token]) -> Option<Spelled>
     ensures { result ≡ spec.spelled_of (spec.kinds_of tokens.now) }
 {
@@ -74,7 +75,7 @@ fn of_three(first: Keyword, second: Keyword, third: Keyword) -> Option<IntType>
 }
 
 /// The longest type at the front, and how many tokens spell it.
-#[tactic(auto, unfolding(c_mean::specs::TypeName::front_type))]
+#[tactic(auto, unfolding(c_tree::specs::TypeName::front_type))]
 pub fn front_type(tokens: &[Token]) -> Option<(Spelled, usize)>
     ensures value { result ≡ spec.front_type tokens.now }
     ensures within { IfSome result (λ t. t.1 ≤ length tokens.now) }

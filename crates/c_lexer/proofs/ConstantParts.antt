@@ -2,14 +2,13 @@
 use Rattle.std.proofs.Common.{get_or, drop-cons, ◌≡◌, ℕ, suc, ◌+◌, ◌*◌, ◌^◌, ◌<◌, ◌≤◌, Bool, true, false, cond, nat_lt, List, [], ◌∷◌, length, take, drop, take_while, Some, None, refl, ap, ◌∙◌, arith}
 use Rattle.std.specs.Char.{digit_value}
 use Rattle.std.specs.Str.Parse.{AllDigits, digits_value, digits_value_after}
-use Rattle.std.proofs.lemmas.Bool.{lt-ltb}
 use Rattle.std.proofs.lemmas.Bool.Decides.{nat_tests}
 use Rattle.std.proofs.lemmas.List.{nil_from_length}
 use Rattle.std.proofs.lemmas.List.Sums.{take_while-cons}
 use Rattle.std.proofs.Math.Nat.{le-mul_of_pos_right}
-use Rattle.c_mean.specs.declared.token.Constant.{Constant}
-use Rattle.c_mean.specs.IntegerConstant.{Suffix, suffix_of, most, in_base, constant_from, constant_in}
+use Rattle.c_text.specs.IntegerConstant.{Suffix, suffix_of, value_limit, in_base, constant_from, constant_in}
 use Rattle.c_lexer.proofs.Lengths.{take-take_while}
+use Rattle.c_text.proofs.Constants.{constant, from-digits}
 
 -- ---- digits
 
@@ -46,19 +45,11 @@ from-no_suffix base [] = refl
 from-no_suffix base (d ∷ ds) = refl
 
 pub from-large : (base : ℕ) (ds : List ℕ) (s : Suffix) → 2 ^ 64 ≤ digits_value base ds → constant_from base ds (Some s) ≡ None
-unfolding most
+unfolding value_limit
 from-large base [] s h = refl
 from-large base (d ∷ ds) s h =
     let e : nat_lt (digits_value base (d ∷ ds)) (2 ^ 64) ≡ false = grind (arith, nat_tests) in
     rw e refl
-
-abbrev pub constant : ℕ → ℕ → Suffix → Constant
-constant value base s = record { value = value; base = base; unsigned = s.unsigned; longs = s.longs }
-
-pub from-digits : (base : ℕ) (ds : List ℕ) (s : Suffix) → 0 < length ds → digits_value base ds < 2 ^ 64 → constant_from base ds (Some s) ≡ Some (constant (digits_value base ds) base s)
-unfolding most
-from-digits base [] s some small = absurd (omega arith)
-from-digits base (d ∷ ds) s some small = rw (lt-ltb (digits_value base (d ∷ ds)) (2 ^ 64) small) refl
 
 -- ---- the whole
 

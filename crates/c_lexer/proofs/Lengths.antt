@@ -3,8 +3,8 @@ use Rattle.std.proofs.Common.{◌≡◌, ℕ, suc, ◌+◌, ◌<◌, Bool, true,
 use Rattle.std.specs.declared.option.Option.{Option}
 use Rattle.std.specs.declared.option.Option.TheVariants.{None, Some}
 use Rattle.std.proofs.lemmas.List.Folds.{length-prefix_len}
-use Rattle.c_mean.specs.Characters.{first_is}
-use Rattle.c_mean.specs.Piece.{one_more, close_at, number_goes_on, number_rest}
+use Rattle.c_text.specs.Characters.{first_is}
+use Rattle.c_text.specs.Piece.{one_more, close_at, number_goes_on, number_rest}
 
 -- as many bytes as the front has are the front
 pub take-take_while : (p : ℕ → Bool) (bs : List ℕ) → take (length (take_while p bs)) bs ≡ take_while p bs

@@ -2,7 +2,7 @@
 use Rattle.std.proofs.Common.{◌≡◌, ℕ, Bool, true, false, cond, ◌||◌, List, [], ◌∷◌, ◌++◌, length, take, Some, None, Option, refl, ap, ◌∙◌, arith, rules}
 use Rattle.std.specs.List.{AllByRecursion, list_any}
 use Rattle.std.proofs.lemmas.Bool.Decides.{nat_tests}
-use Rattle.c_mean.specs.Punctuator.{begins, first_in, threes, twos, ones, digraphs, mark_at}
+use Rattle.c_text.specs.Punctuator.{begins, first_in, threes, twos, ones, digraphs, mark_at}
 
 -- a spelling that stands in front is what stands in front
 begins-take : (x bs : List ℕ) → begins x bs ≡ true → x ≡ take (length x) bs

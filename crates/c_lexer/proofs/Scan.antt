@@ -3,16 +3,16 @@ use Rattle.std.proofs.Common.{◌≡◌, ℕ, zero, suc, ◌+◌, ◌<◌, ◌�
 use Rattle.std.specs.Prelude.{count_by, nat_lt}
 use Rattle.std.proofs.lemmas.Bool.Decides.{nat_tests}
 use Rattle.std.proofs.lemmas.List.Sums.{sum_by-cons}
-use Rattle.c_mean.specs.declared.place.Place.{Place}
-use Rattle.c_mean.specs.declared.token.Token.{Token}
-use Rattle.c_mean.specs.declared.token.TokenKind.{TokenKind}
-use Rattle.c_mean.specs.Characters.{is_line_end}
-use Rattle.c_mean.specs.Splice.{line_after, begins_splice, first_splice}
-use Rattle.c_mean.specs.declared.refusal.CKind.{CKind}
-use Rattle.c_mean.specs.declared.refusal.CKind.TheVariants.{Splice}
-use Rattle.c_mean.specs.Refusal.{Refusal}
-use Rattle.c_mean.specs.Piece.{Lexeme, token, line_end, space, bad, piece}
-use Rattle.c_mean.specs.Tokens.{Placed, scan, onto, gathered, unless_spliced}
+use Rattle.c_text.specs.declared.place.Place.{Place}
+use Rattle.c_text.specs.declared.token.Token.{Token}
+use Rattle.c_text.specs.declared.token.TokenKind.{TokenKind}
+use Rattle.c_text.specs.Characters.{is_line_end}
+use Rattle.c_text.specs.Splice.{line_after, begins_splice, first_splice}
+use Rattle.c_text.specs.declared.refusal.CKind.{CKind}
+use Rattle.c_text.specs.declared.refusal.CKind.TheVariants.{Splice}
+use Rattle.c_text.specs.Refusal.{Refusal}
+use Rattle.c_text.specs.Piece.{Lexeme, token, line_end, space, bad, piece}
+use Rattle.c_text.specs.Tokens.{Placed, scan, onto, gathered, unless_spliced}
 use Rattle.c_lexer.specs.Lexemes.{reach_of}
 
 -- ---- several in front

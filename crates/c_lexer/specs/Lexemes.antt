@@ -1,6 +1,6 @@
 -- What the reader of one lexeme gives, as the definition's.
 use Rattle.std.specs.Prelude.{ℕ}
-use Rattle.c_mean.specs.Piece.{Lexeme as Defined, token, line_end, space, bad, Piece as DefinedPiece}
+use Rattle.c_text.specs.Piece.{Lexeme as Defined, token, line_end, space, bad, Piece as DefinedPiece}
 use Rattle.c_lexer.specs.declared.lexeme.Lexeme.{Lexeme}
 use Rattle.c_lexer.specs.declared.lexeme.Lexeme.TheVariants.{Token, LineEnd, Space, Bad}
 use Rattle.c_lexer.specs.declared.lexeme.Piece.{Piece}

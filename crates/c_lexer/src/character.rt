@@ -1,7 +1,7 @@
 //! The characters that tokens begin and go on with (ISO/IEC 9899:1999, 5.2.1 and 6.4).
 ghost use Rattle.std.specs.Prelude.{◌≡◌, not, ◌+◌, ◌^◌, ◌<◌, ◌≤◌, length, drop, take_while};
-ghost use Rattle.c_mean.specs.Characters as characters;
-ghost use Rattle.c_mean.specs.Splice as splices;
+ghost use Rattle.c_text.specs.Characters as characters;
+ghost use Rattle.c_text.specs.Splice as splices;
 
 /// Whether a line ends with the byte.
 pub fn is_line_end(byte: u8) -> bool

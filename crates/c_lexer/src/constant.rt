@@ -1,10 +1,10 @@
 //! Integer constants (ISO/IEC 9899:1999, 6.4.4.1).
 ghost use Rattle.std.specs.Prelude.{◌≡◌, ◌+◌, ◌*◌, ◌^◌, ◌≤◌, length, [], ◌∷◌, take_while, MatchOption};
 ghost use Rattle.std.specs.Str.Parse.{digits_value, AllDigits};
-ghost use Rattle.c_mean.specs.IntegerConstant as constants;
+ghost use Rattle.c_text.specs.IntegerConstant as constants;
 
 use crate::character::behind;
-use c_mean::Constant;
+use c_text::Constant;
 use std::marker::Model;
 
 /// What stands behind the digits of a constant; contracts see the record of the definition.
@@ -16,7 +16,7 @@ struct Suffix {
 }
 
 impl Model for Suffix {
-    ghost use Rattle.c_mean.specs.IntegerConstant as constants;
+    ghost use Rattle.c_text.specs.IntegerConstant as constants;
 
     ghost Value = { constants.Suffix };
 
@@ -138,7 +138,7 @@ fn constant_after_zero(bytes: &[u8]) -> Option<Constant>
 }
 
 /// The constant that all the bytes spell.
-#[tactic(auto, unfolding(c_mean::specs::IntegerConstant::constant_of))]
+#[tactic(auto, unfolding(c_text::specs::IntegerConstant::constant_of))]
 pub fn constant_of(bytes: &[u8]) -> Option<Constant>
     ensures { result ≡ constants.constant_of bytes.now }
 {

@@ -1,9 +1,9 @@
 //! What stands in front of a text: the longest lexical element (ISO/IEC 9899:1999, 6.4).
 ghost use Rattle.std.specs.Prelude.{◌≡◌, ℕ, ◌+◌, ◌-◌, ◌≤◌, ◌∷◌, ◌==◌, ◌&&◌, length, take, drop, take_while, IfOk, IfSome};
-ghost use Rattle.c_mean.specs.Characters as characters;
-ghost use Rattle.c_mean.specs.IntegerConstant as constants;
-ghost use Rattle.c_mean.specs.Punctuator as punctuators;
-ghost use Rattle.c_mean.specs.Piece as pieces;
+ghost use Rattle.c_text.specs.Characters as characters;
+ghost use Rattle.c_text.specs.IntegerConstant as constants;
+ghost use Rattle.c_text.specs.Punctuator as punctuators;
+ghost use Rattle.c_text.specs.Piece as pieces;
 ghost use Rattle.c_lexer.specs.Lexemes.{piece_of};
 
 use crate::character::{
@@ -11,7 +11,7 @@ use crate::character::{
 };
 use crate::constant::constant_of;
 use crate::punctuator::mark_length;
-use c_mean::{CKind, TokenKind};
+use c_text::{CKind, TokenKind};
 use cg_out::{Memory, Text};
 use std::alloc::Global;
 

@@ -1,13 +1,13 @@
 //! From bytes to tokens (ISO/IEC 9899:1999, 6.4): the longest match from the left.
 ghost use Rattle.std.specs.Prelude.{◌≡◌, ◌+◌, ◌≤◌, length};
-ghost use Rattle.c_mean.specs.Refusal.{Gives};
-ghost use Rattle.c_mean.specs.Tokens as lexing;
+ghost use Rattle.c_text.specs.Refusal.{Gives};
+ghost use Rattle.c_text.specs.Tokens as lexing;
 ghost use Rattle.c_lexer.specs.Lexemes.{lexeme_of, reach_of};
 
 use crate::character::behind;
 use crate::lexeme::{Lexeme, read_piece};
 use crate::splice::line_behind;
-use c_mean::{CFault, CKind, Place, Token};
+use c_text::{CFault, CKind, Place, Token};
 use std::alloc::Global;
 
 /// The most bytes of a text that is cut into tokens: 64 MiB.

@@ -14,6 +14,3 @@ mod punctuator;
 mod splice;
 
 pub use lexing::{SOURCE_LIMIT, tokens};
-
-#[cfg(test)]
-mod tests;

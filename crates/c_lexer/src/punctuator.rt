@@ -2,7 +2,7 @@
 ghost use Rattle.std.specs.Prelude.{◌≡◌, ◌≤◌, length, take, IfSome};
 ghost use Rattle.std.specs.List.{list_any};
 ghost use Rattle.std.specs.Option.{option_map};
-ghost use Rattle.c_mean.specs.Punctuator as punctuators;
+ghost use Rattle.c_text.specs.Punctuator as punctuators;
 
 /// Whether one of the other spellings of `[`, `]`, `{`, `}` and `#` (6.4.6p3) stands in front.
 fn begins_digraph(text: &[u8]) -> bool

@@ -1,12 +1,12 @@
 //! Line splices and trigraphs (ISO/IEC 9899:1999, 5.1.1.2 and 5.2.1.1), which are refused wherever
 //! they stand.
 ghost use Rattle.std.specs.Prelude.{◌≡◌, Some, ◌+◌, ◌<◌, ◌≤◌, length, count_by, take, drop, IfOk, IfErr};
-ghost use Rattle.c_mean.specs.Characters.{is_line_end};
-ghost use Rattle.c_mean.specs.Splice as splices;
+ghost use Rattle.c_text.specs.Characters.{is_line_end};
+ghost use Rattle.c_text.specs.Splice as splices;
 
 use crate::character::{behind, first_is, line_after};
 use crate::lexing::SOURCE_LIMIT;
-use c_mean::Place;
+use c_text::Place;
 
 /// Whether a backslash, or the first of two question marks, stands before the bytes.
 fn begins_splice(byte: u8, rest: &[u8]) -> bool

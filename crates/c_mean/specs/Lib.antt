@@ -1,30 +1,8 @@
-pub mod Refusal
-pub mod Sequence
-pub mod Symbol
-pub mod Brackets
-pub mod Operators
-pub mod Characters
-pub mod IntegerConstant
-pub mod Punctuator
-pub mod Piece
-pub mod Splice
-pub mod Tokens
-pub mod SeenToken
-pub mod BareTokens
-pub mod StandardHeader
-pub mod Directive
-pub mod MacroDefinition
-pub mod TypeName
-pub mod ExpressionCut
-pub mod ExpressionPart
-pub mod CaseValue
-pub mod StatementCut
-pub mod Cut
+-- What the promises rest on.
 pub mod FirstFault
-pub mod StatementPart
-pub mod PlainExpression
-pub mod PlainStatement
-pub mod PlainUnit
-pub mod Conditional
-pub mod Preprocessing
-pub mod BarePreprocessing
+-- What C text is, given on.
+pub use Rattle.c_text.specs.Refusal
+pub use Rattle.c_text.specs.Tokens
+pub use Rattle.c_text.specs.Preprocessing
+pub use Rattle.c_tree.specs.UnitCut
+pub use Rattle.c_tree.specs.BareUnit

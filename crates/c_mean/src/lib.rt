@@ -1,29 +1,16 @@
-//! The tokens of C99 and what its preprocessing leaves, as types, with the definitions of what
-//! they are in `specs/`: bytes come in, tokens and macros are what they mean.
+//! What C texts mean: so far the unit that a header and a source are, or their first fault, as a
+//! definition in `specs/`. The types of tokens and trees are given on, so that whoever needs
+//! C's trees and their meaning needs this crate alone.
 //!
 //! ```text
-//! Token { kind: TokenKind::Word(name), place: Place { header, line, start, end }, fresh }
-//! CKind::Splice.number() == 41 && CKind::Splice.name() == "Splice"
+//! unit_of_texts header name source ≡ Err (record { kind = Syntax; place = .. })
 //! ```
 #![tactic(auto)]
 
-mod expression;
-mod item;
-mod place;
-mod preprocessed;
-mod refusal;
-mod statement;
-mod symbol;
-mod token;
-
-pub use expression::{BinaryOp, Expr, ExprKind, UnaryOp};
-pub use item::{CType, Field, Function, Item, Struct, Target, Unit};
-pub use place::Place;
-pub use preprocessed::{Macro, Preprocessed};
-pub use refusal::{CFault, CKind};
-pub use statement::{AssignOp, Stmt, StmtKind, SwitchPart};
-pub use symbol::{Bracket, Keyword, Punctuator};
-pub use token::{Constant, IntType, Spelled, Token, TokenKind};
-
-#[cfg(test)]
-mod tests;
+pub use c_text::{
+    CFault, CKind, Constant, IntType, Macro, Place, Preprocessed, Spelled, Token, TokenKind,
+};
+pub use c_tree::{
+    AssignOp, BinaryOp, Bracket, CType, Callee, Expr, ExprKind, Field, Function, Item, Keyword,
+    MOST_OPEN, Punctuator, Stmt, StmtKind, Struct, SwitchPart, Target, UnaryOp, Unit,
+};

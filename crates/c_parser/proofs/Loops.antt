@@ -1,16 +1,17 @@
 -- Parts that are read one behind the other, by a loop.
 use Rattle.std.proofs.Common.{◌≡◌, ℕ, zero, suc, ◌+◌, ◌<◌, ◌≤◌, ◌-◌, Bool, true, List, [], ◌∷◌, ◌++◌, length, take, drop, get_or, Result, Ok, Err, refl, sym, ap, subst, ◌∙◌, arith, add-one, append_assoc}
 use Rattle.std.proofs.Math.Seq.{take-length}
-use Rattle.c_mean.specs.declared.token.Token.{Token}
-use Rattle.c_mean.specs.Refusal.{Refusal, Gives}
-use Rattle.c_mean.specs.Sequence.{Reading, all_read, ◌>>=◌}
-use Rattle.c_mean.specs.declared.place.Place.{Place}
-use Rattle.c_mean.specs.declared.refusal.CFault.{CFault}
-use Rattle.c_mean.specs.declared.refusal.CFault.TheVariants.{Fault, Memory}
-use Rattle.c_mean.specs.StatementCut.{Read, PartRead, read, each, part}
-use Rattle.c_mean.specs.declared.item.Field.{Field}
-use Rattle.c_mean.specs.ExpressionCut.{Part}
-use Rattle.c_mean.specs.Cut.{parameter, each_parameter}
+use Rattle.c_text.specs.declared.token.Token.{Token}
+use Rattle.c_text.specs.Refusal.{Refusal, Gives}
+use Rattle.c_tree.specs.Sequence.{Reading, all_read}
+use Rattle.cg_out.specs.Words.{◌>>=◌}
+use Rattle.c_text.specs.declared.place.Place.{Place}
+use Rattle.c_text.specs.declared.refusal.CFault.{CFault}
+use Rattle.c_text.specs.declared.refusal.CFault.TheVariants.{Fault, Memory}
+use Rattle.c_tree.specs.StatementCut.{StatementRead, PartRead, statement_of, each, switch_part}
+use Rattle.c_tree.specs.declared.item.Field.{Field}
+use Rattle.c_tree.specs.ExpressionCut.{Delimited}
+use Rattle.c_tree.specs.ParameterCut.{parameter, each_parameter}
 use Rattle.c_parser.specs.Label.{IsPart}
 use Rattle.c_expression.specs.Front.{with_front}
 
@@ -56,7 +57,7 @@ first_is r left ts t got e h = subst (λ us. first_of r us got) (sym e) h
 
 -- ---- of parameters
 
-pub next_parameter : (ps qs : List Part) (p : Part) (f : Field) (fs : List Field) (whole : Result (List Field) Refusal) → ps ≡ p ∷ qs → parameter p ≡ Ok f
+pub next_parameter : (ps qs : List Delimited) (p : Delimited) (f : Field) (fs : List Field) (whole : Result (List Field) Refusal) → ps ≡ p ∷ qs → parameter p ≡ Ok f
     → with_front fs (each_parameter ps) ≡ whole → with_front (fs ++ f ∷ []) (each_parameter qs) ≡ whole
 next_parameter ps qs p f fs whole e g h =
     front-one fs f (each_parameter qs)
@@ -66,13 +67,13 @@ next_parameter ps qs p f fs whole e g h =
 
 -- ---- of statements and of the parts of a switch
 
-pub first-each : (may : Bool) (room : ℕ) (after : Place) (left : List Token) (got : Read) → 0 < length left → read may room left after ≡ got → first_of (each read may room after) left got
+pub first-each : (may : Bool) (room : ℕ) (after : Place) (left : List Token) (got : StatementRead) → 0 < length left → statement_of may room left after ≡ got → first_of (each statement_of may room after) left got
 first-each may room after [] got le e = absurd (omega (arith, le))
 first-each may room after (t ∷ ts) got le e = e
 
-pub first-part : (room : ℕ) (after : Place) (left ts : List Token) (t : Token) (found : Read → PartRead) → left ≡ t ∷ ts → IsPart room after t ts found
-    → first_of (part read room after) left (found (read true room left after))
-first-part room after left ts t found e p = subst (λ us. first_of (part read room after) us (found (read true room us after))) (sym e) (p (read true room (t ∷ ts) after))
+pub first-part : (room : ℕ) (after : Place) (left ts : List Token) (t : Token) (found : StatementRead → PartRead) → left ≡ t ∷ ts → IsPart room after t ts found
+    → first_of (switch_part statement_of room after) left (found (statement_of true room left after))
+first-part room after left ts t found e p = subst (λ us. first_of (switch_part statement_of room after) us (found (statement_of true room us after))) (sym e) (p (statement_of true room (t ∷ ts) after))
 
 -- a slice by its first item and the others
 pub first_and_rest : {A : Type 0} (ls : List A) (x : A) → 1 ≤ length ls → x ≡ get_or ls 0 x → ls ≡ x ∷ take (length ls - 1) (drop 1 ls)

@@ -1,14 +1,14 @@
 -- A value behind its signs.
 use Rattle.std.proofs.Common.{◌≡◌, ℕ, ◌+◌, List, [], ◌∷◌, ◌++◌, length, drop, Result, Ok, Err, refl, sym, ap, ◌∙◌, arith, length-drop}
-use Rattle.c_mean.specs.declared.place.Place.{Place}
-use Rattle.c_mean.specs.declared.token.Token.{Token}
-use Rattle.c_mean.specs.declared.expression.Expr.{Expr}
-use Rattle.c_mean.specs.declared.refusal.CFault.{CFault}
-use Rattle.c_mean.specs.declared.refusal.CFault.TheVariants.{Fault, Memory}
-use Rattle.c_mean.specs.Refusal.{Refusal, Gives}
-use Rattle.c_mean.specs.Sequence.{◌>>=◌}
-use Rattle.c_mean.specs.CaseValue.{signed, value_step, case_value}
-use Rattle.c_mean.proofs.CaseSteps.{case_value-step}
+use Rattle.c_text.specs.declared.place.Place.{Place}
+use Rattle.c_text.specs.declared.token.Token.{Token}
+use Rattle.c_tree.specs.declared.expression.Expr.{Expr}
+use Rattle.c_text.specs.declared.refusal.CFault.{CFault}
+use Rattle.c_text.specs.declared.refusal.CFault.TheVariants.{Fault, Memory}
+use Rattle.c_text.specs.Refusal.{Refusal, Gives}
+use Rattle.cg_out.specs.Words.{◌>>=◌}
+use Rattle.c_tree.specs.CaseValue.{signed, value_step, case_value}
+use Rattle.c_tree.proofs.CaseSteps.{case_value-step}
 use Rattle.c_expression.specs.Prefixes.{with_prefix, with_prefixes}
 use Rattle.c_expression.specs.declared.prefixes.PrefixOp.{PrefixOp}
 use Rattle.c_expression.proofs.Operands.{behind-more}

@@ -1,8 +1,8 @@
 -- Open brackets as a stack.
 use Rattle.std.proofs.Common.{◌≡◌, ℕ, ◌≤◌, List, [], ◌∷◌, ◌++◌, length, get_or, Bool, if◌then◌else◌, refl, arith}
-use Rattle.c_mean.specs.declared.place.Place.{Place}
-use Rattle.c_mean.specs.declared.symbol.Bracket.{Bracket}
-use Rattle.c_mean.specs.Brackets as brackets
+use Rattle.c_text.specs.declared.place.Place.{Place}
+use Rattle.c_tree.specs.declared.symbol.Bracket.{Bracket}
+use Rattle.c_tree.specs.Brackets as brackets
 use Rattle.c_parser.specs.declared.matching.Open.{Open}
 use Rattle.c_parser.specs.Matching.{open_of, onto, stack_of}
 

@@ -1,7 +1,7 @@
 -- The tokens of a value, if there is one.
 use Rattle.std.specs.Prelude.{List, Option, Some, None}
 use Rattle.std.specs.Borrow.{Bor}
-use Rattle.c_mean.specs.declared.token.Token.{Token}
+use Rattle.c_text.specs.declared.token.Token.{Token}
 
 abbrev pub value_of : Option (Bor (List Token)) → Option (List Token)
 value_of None = None

@@ -1,18 +1,18 @@
 -- What stands at a switch's own level, but for statements.
 use Rattle.std.specs.Prelude.{◌≡◌, ℕ, List, Option, Some, None, Result, Ok, Err}
-use Rattle.c_mean.specs.declared.place.Place.{Place}
-use Rattle.c_mean.specs.declared.token.Token.{Token}
-use Rattle.c_mean.specs.declared.statement.SwitchPart.{SwitchPart}
-use Rattle.c_mean.specs.declared.statement.SwitchPart.TheVariants.{Statement}
-use Rattle.c_mean.specs.declared.refusal.CFault.{CFault}
-use Rattle.c_mean.specs.declared.refusal.CFault.TheVariants.{Fault, Memory}
-use Rattle.c_mean.specs.Sequence.{◌>>=◌}
-use Rattle.c_mean.specs.Symbol.{keyword_of}
-use Rattle.c_mean.specs.StatementCut.{Read, PartRead, part_by}
+use Rattle.c_text.specs.declared.place.Place.{Place}
+use Rattle.c_text.specs.declared.token.Token.{Token}
+use Rattle.c_tree.specs.declared.statement.SwitchPart.{SwitchPart}
+use Rattle.c_tree.specs.declared.statement.SwitchPart.TheVariants.{Statement}
+use Rattle.c_text.specs.declared.refusal.CFault.{CFault}
+use Rattle.c_text.specs.declared.refusal.CFault.TheVariants.{Fault, Memory}
+use Rattle.cg_out.specs.Words.{◌>>=◌}
+use Rattle.c_tree.specs.Symbol.{keyword_of}
+use Rattle.c_tree.specs.StatementCut.{StatementRead, PartRead, part_by}
 
 -- the part that is read, whatever statement stands there
-abbrev pub IsPart : ℕ → Place → Token → List Token → (Read → PartRead) → Type 0
-IsPart room after t ts found = (read : Read) → part_by (keyword_of t.kind) read room after t ts ≡ found read
+abbrev pub IsPart : ℕ → Place → Token → List Token → (StatementRead → PartRead) → Type 0
+IsPart room after t ts found = (read : StatementRead) → part_by (keyword_of t.kind) read room after t ts ≡ found read
 
 -- a label, or a fault, or the statement that stands there
 abbrev pub IsLabel : Result (Option (SwitchPart × ℕ)) CFault → ℕ → Place → Token → List Token → Type 0

@@ -1,6 +1,7 @@
+-- What the functions inside promise each other.
 pub mod Form
 pub mod Head
 pub mod Label
 pub mod Matching
-pub mod Pending
 pub mod Signs
+pub mod Pending

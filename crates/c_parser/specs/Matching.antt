@@ -1,7 +1,7 @@
 -- The brackets that are open, as the definition has them.
 use Rattle.std.specs.Prelude.{◌≡◌, List, [], ◌∷◌, Option, Some, None, Result, Ok, Err}
-use Rattle.c_mean.specs.Refusal.{Refusal}
-use Rattle.c_mean.specs.Brackets as brackets
+use Rattle.c_text.specs.Refusal.{Refusal}
+use Rattle.c_tree.specs.Brackets as brackets
 use Rattle.c_parser.specs.declared.matching.Open.{Open}
 use Rattle.c_parser.specs.declared.matching.Found.{Found}
 

@@ -1,11 +1,11 @@
 -- The signs that stand before the value of a `case`.
 use Rattle.std.specs.Prelude.{◌≡◌, ℕ, ◌≤◌, List, [], ◌∷◌, length, drop, None, Some, Ok}
-use Rattle.c_mean.specs.declared.place.Place.{Place}
-use Rattle.c_mean.specs.declared.token.Token.{Token}
-use Rattle.c_mean.specs.declared.expression.UnaryOp.{UnaryOp}
-use Rattle.c_mean.specs.Sequence.{◌>>=◌}
-use Rattle.c_mean.specs.Operators.{sign_of}
-use Rattle.c_mean.specs.CaseValue.{case_value}
+use Rattle.c_text.specs.declared.place.Place.{Place}
+use Rattle.c_text.specs.declared.token.Token.{Token}
+use Rattle.c_tree.specs.declared.expression.UnaryOp.{UnaryOp}
+use Rattle.cg_out.specs.Words.{◌>>=◌}
+use Rattle.c_tree.specs.Operators.{sign_of}
+use Rattle.c_tree.specs.CaseValue.{case_value}
 use Rattle.c_expression.specs.At.{IsAt}
 use Rattle.c_expression.specs.Prefixes.{with_prefixes}
 use Rattle.c_expression.specs.declared.prefixes.PrefixOp.{PrefixOp}

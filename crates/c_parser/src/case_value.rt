@@ -1,13 +1,14 @@
 //! The values of `case` labels: constants, with signs and brackets round them.
 ghost use Rattle.std.specs.Prelude.{◌≡◌, ◌≤◌, length, drop, IfOk, IfNone, IfSome};
-ghost use Rattle.c_mean.specs.Refusal.{Gives};
-ghost use Rattle.c_mean.specs.CaseValue as spec;
+ghost use Rattle.c_text.specs.Refusal.{Gives};
+ghost use Rattle.c_tree.specs.CaseValue as spec;
 ghost use Rattle.c_parser.specs.Signs.{AreSigns, IsSignAt, NoSign};
 
 use c_expression::{
     PrefixKind, PrefixOp, behind, closed, inside, is_round, sign, syntax, with_prefixes,
 };
-use c_mean::{CFault, Expr, ExprKind, Place, Token, TokenKind};
+use c_text::{CFault, Place, Token, TokenKind};
+use c_tree::{Expr, ExprKind};
 use cg_out::{Boxed, Memory};
 use std::alloc::Global;
 

@@ -1,22 +1,25 @@
 //! Fields of structs and parameters of functions.
 ghost use Rattle.std.specs.Prelude.{◌≡◌, ◌+◌, ◌<◌, ◌≤◌, ◌∷◌, length, drop, IfOk};
-ghost use Rattle.c_mean.specs.Refusal.{Gives};
-ghost use Rattle.c_mean.specs.Cut as spec;
-ghost use Rattle.c_mean.specs.ExpressionCut.{closed_in, parts};
-ghost use Rattle.c_mean.specs.Sequence.{all_read};
-ghost use Rattle.c_mean.specs.Symbol as symbols;
+ghost use Rattle.c_text.specs.Refusal.{Gives};
+ghost use Rattle.c_tree.specs.StructCut as struct_cut;
+ghost use Rattle.c_tree.specs.ParameterCut as parameter_cut;
+ghost use Rattle.c_tree.specs.DeclarationCut as declaration_cut;
+ghost use Rattle.c_tree.specs.ExpressionCut.{closed_in, parts};
+ghost use Rattle.c_tree.specs.Sequence.{all_read};
+ghost use Rattle.c_tree.specs.Symbol as symbols;
 
 use crate::forms::is_void;
 use c_expression::{
     Stop, behind, first_outside, first_part, front_type, keyword, mark, name, syntax,
 };
-use c_mean::{CFault, CType, Field, Keyword, Place, Punctuator, Spelled, Target, Token, TokenKind};
+use c_text::{CFault, Place, Spelled, Token, TokenKind};
+use c_tree::{CType, Field, Keyword, Punctuator, Target};
 use cg_out::{List, Text};
 use std::alloc::Global;
 
 /// A name alone, with the type before it, in tokens that begin at a place.
 fn named(alloc: Global, first: Place, kind: CType, tokens: &[Token]) -> Result<Field, CFault>
-    ensures { Gives (λ f. f) result (spec.named first kind tokens.now) }
+    ensures { Gives (λ f. f) result (declaration_cut.declared_as first kind tokens.now) }
 {
     let [token] = tokens else {
         return Err(syntax(first));
@@ -33,7 +36,7 @@ fn named(alloc: Global, first: Place, kind: CType, tokens: &[Token]) -> Result<F
 
 /// A type of integers and a name.
 fn integer(alloc: Global, first: Place, tokens: &[Token]) -> Result<Field, CFault>
-    ensures { Gives (λ f. f) result (spec.integer first tokens.now) }
+    ensures { Gives (λ f. f) result (declaration_cut.integer first tokens.now) }
 {
     let Some((kind, count)) = front_type(tokens) else {
         return Err(syntax(first));
@@ -43,7 +46,7 @@ fn integer(alloc: Global, first: Place, tokens: &[Token]) -> Result<Field, CFaul
 
 /// A field of a struct, from the tokens before its semicolon, which has this place.
 fn field(alloc: Global, tokens: &[Token], after: Place) -> Result<Field, CFault>
-    ensures { Gives (λ f. f) result (spec.struct_field (tokens.now, after)) }
+    ensures { Gives (λ f. f) result (struct_cut.struct_field (tokens.now, after)) }
 {
     match tokens {
         [] => Err(syntax(after)),
@@ -59,7 +62,7 @@ fn field_at(
     tokens: &[Token],
 ) -> Result<(Field, usize), CFault>
     requires { tokens.now ≡ first.now ∷ rest.now }
-    ensures value { Gives (λ f. f) result (spec.each_field first.now rest.now) }
+    ensures value { Gives (λ f. f) result (struct_cut.each_field first.now rest.now) }
     ensures within { IfOk result (λ f. f.1 < length tokens.now) }
 {
     let Some(end) = first_outside(Stop::Semicolon, tokens) else {
@@ -71,7 +74,7 @@ fn field_at(
 
 /// The fields of a struct, one or more, from the tokens between its braces.
 pub fn fields(alloc: Global, tokens: &[Token], close: Place) -> Result<List<Field>, CFault>
-    ensures { Gives (λ fs. fs) result (spec.fields (closed_in tokens.now close)) }
+    ensures { Gives (λ fs. fs) result (struct_cut.fields (closed_in tokens.now close)) }
 {
     if tokens.is_empty() {
         return Err(syntax(close));
@@ -80,7 +83,7 @@ pub fn fields(alloc: Global, tokens: &[Token], close: Place) -> Result<List<Fiel
 }
 
 fn all_fields(alloc: Global, tokens: &[Token]) -> Result<List<Field>, CFault>
-    ensures { Gives (λ fs. fs) result (all_read spec.each_field 0 tokens.now) }
+    ensures { Gives (λ fs. fs) result (all_read struct_cut.each_field 0 tokens.now) }
 {
     let mut list = List::new(alloc);
     let mut left = tokens;
@@ -93,7 +96,7 @@ fn all_fields(alloc: Global, tokens: &[Token]) -> Result<List<Field>, CFault>
 }
 
 fn is_byte(kind: &TokenKind) -> bool
-    ensures { result ≡ spec.is_byte kind.now }
+    ensures { result ≡ parameter_cut.is_byte kind.now }
 {
     matches!(
         kind,
@@ -118,7 +121,7 @@ fn pointer(
     target: Target,
     tokens: &[Token],
 ) -> Result<Field, CFault>
-    ensures { Gives (λ f. f) result (spec.pointer first constant target tokens.now) }
+    ensures { Gives (λ f. f) result (parameter_cut.pointer first constant target tokens.now) }
 {
     match tokens {
         [star, rest @ ..] if is_star(&star.kind) => {
@@ -135,7 +138,7 @@ fn struct_pointer(
     constant: bool,
     tokens: &[Token],
 ) -> Result<Field, CFault>
-    ensures { Gives (λ f. f) result (spec.struct_pointer first constant tokens.now) }
+    ensures { Gives (λ f. f) result (parameter_cut.struct_pointer first constant tokens.now) }
 {
     let [tag, rest @ ..] = tokens else {
         return Err(syntax(first));
@@ -148,7 +151,7 @@ fn struct_pointer(
 }
 
 fn is_byte_pointer(first: &Token, rest: &[Token]) -> bool
-    ensures { result ≡ spec.is_byte_pointer first.now rest.now }
+    ensures { result ≡ parameter_cut.is_byte_pointer first.now rest.now }
 {
     match rest {
         [] => false,
@@ -163,7 +166,7 @@ fn parameter_of(
     constant: bool,
     tokens: &[Token],
 ) -> Result<Field, CFault>
-    ensures { Gives (λ f. f) result (spec.parameter_of place constant tokens.now) }
+    ensures { Gives (λ f. f) result (parameter_cut.parameter_of place constant tokens.now) }
 {
     let [first, rest @ ..] = tokens else {
         return Err(syntax(place));
@@ -182,7 +185,7 @@ fn parameter_of(
 
 /// A parameter, behind which a token stands at this place.
 fn parameter(alloc: Global, tokens: &[Token], after: Place) -> Result<Field, CFault>
-    ensures { Gives (λ f. f) result (spec.parameter (tokens.now, after)) }
+    ensures { Gives (λ f. f) result (parameter_cut.parameter (tokens.now, after)) }
 {
     let [first, rest @ ..] = tokens else {
         return Err(syntax(after));
@@ -196,7 +199,7 @@ fn parameter(alloc: Global, tokens: &[Token], after: Place) -> Result<Field, CFa
 }
 
 fn is_void_alone(tokens: &[Token]) -> bool
-    ensures { result ≡ spec.is_void_alone tokens.now }
+    ensures { result ≡ parameter_cut.is_void_alone tokens.now }
 {
     match tokens {
         [only] => is_void(&only.kind),
@@ -206,7 +209,7 @@ fn is_void_alone(tokens: &[Token]) -> bool
 
 /// The parameters between the brackets of a function, of which the last has this place.
 pub fn parameters(alloc: Global, tokens: &[Token], close: Place) -> Result<List<Field>, CFault>
-    ensures { Gives (λ fs. fs) result (spec.parameters (closed_in tokens.now close)) }
+    ensures { Gives (λ fs. fs) result (parameter_cut.parameters (closed_in tokens.now close)) }
 {
     if is_void_alone(tokens) {
         return Ok(List::new(alloc));
@@ -215,7 +218,7 @@ pub fn parameters(alloc: Global, tokens: &[Token], close: Place) -> Result<List<
 }
 
 fn each_parameter(alloc: Global, tokens: &[Token], close: Place) -> Result<List<Field>, CFault>
-    ensures { Gives (λ fs. fs) result (spec.each_parameter (parts close 0 tokens.now)) }
+    ensures { Gives (λ fs. fs) result (parameter_cut.each_parameter (parts close 0 tokens.now)) }
 {
     let mut list = List::new(alloc);
     let mut left = Some(tokens);

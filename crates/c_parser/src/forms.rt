@@ -1,16 +1,18 @@
 //! The forms of a statement that ends with a semicolon, from the tokens before it.
 ghost use Rattle.std.specs.Prelude.{◌≡◌, ◌<◌, ◌≤◌, length, IfSome, IfNone};
-ghost use Rattle.c_mean.specs.StatementCut as spec;
-ghost use Rattle.c_mean.specs.declared.symbol.Bracket.TheVariants.{Round};
-ghost use Rattle.c_mean.specs.Brackets.{is_bracket, closes};
-ghost use Rattle.c_mean.specs.ExpressionCut.{closed_in};
+ghost use Rattle.c_tree.specs.StatementCut as spec;
+ghost use Rattle.c_tree.specs.declared.symbol.Bracket.TheVariants.{Round};
+ghost use Rattle.c_tree.specs.Brackets.{is_bracket, closes};
+ghost use Rattle.c_tree.specs.ExpressionCut.{closed_in};
+ghost use Rattle.c_expression.specs.Callee.{callee_lent};
 ghost use Rattle.c_parser.specs.Form.{value_of};
 
 use c_expression::{
-    Stop, assignment, callee, closed, closes, first_outside, front_type, is_round, keyword, mark,
-    name, opens,
+    LentCallee, Stop, assignment, callee, closed, closes, first_outside, front_type, is_round,
+    keyword, mark, name, opens,
 };
-use c_mean::{AssignOp, Bracket, Keyword, Place, Punctuator, Spelled, Token, TokenKind};
+use c_text::{Place, Spelled, Token, TokenKind};
+use c_tree::{AssignOp, Bracket, Keyword, Punctuator};
 
 /// `kind name` or `kind name = value`.
 #[derive(Drop)]
@@ -23,8 +25,8 @@ pub struct Declared<'a> {
 
 /// A declaration of a local, if the tokens have its form.
 pub fn declaration(tokens: &[Token]) -> Option<Declared<'_>>
-    ensures some { IfSome result (λ d. spec.declaration tokens.now ≡ spec.declares d.kind d.name.now d.place (value_of d.value)) }
-    ensures none { IfNone result (spec.declaration tokens.now ≡ spec.unknown) }
+    ensures some { IfSome result (λ d. spec.declaration_form tokens.now ≡ spec.declares d.kind d.name.now d.place (value_of d.value)) }
+    ensures none { IfNone result (spec.declaration_form tokens.now ≡ spec.unknown) }
 {
     let (kind, count) = front_type(tokens)?;
     declared_behind(kind, &tokens[count..])
@@ -61,16 +63,28 @@ fn declared_behind(kind: Spelled, tokens: &[Token]) -> Option<Declared<'_>>
     }
 }
 
-/// A name behind `(void)`, and its place.
-pub fn discard(tokens: &[Token]) -> Option<(&[u8], Place)>
-    ensures some { IfSome result (λ d. spec.discard tokens.now ≡ spec.discards d.0.now d.1) }
-    ensures none { IfNone result (spec.discard tokens.now ≡ spec.unknown) }
+/// `(void)name`, with the places of the name and the bracket.
+#[derive(Drop)]
+pub struct Discarded<'a> {
+    pub name: &'a [u8],
+    pub place: Place,
+    pub opening: Place,
+}
+
+/// A name whose value is not used, if the tokens have that form.
+pub fn discard(tokens: &[Token]) -> Option<Discarded<'_>>
+    ensures some { IfSome result (λ d. spec.discard_form tokens.now ≡ spec.discards d.name.now d.place d.opening) }
+    ensures none { IfNone result (spec.discard_form tokens.now ≡ spec.unknown) }
 {
     let [open, void, close, last] = tokens else {
         return None;
     };
     if is_round(&open.kind) && is_void(&void.kind) && is_round_close(&close.kind) {
-        Some((name(&last.kind)?, last.place))
+        Some(Discarded {
+            name: name(&last.kind)?,
+            place: last.place,
+            opening: open.place,
+        })
     } else {
         None
     }
@@ -92,7 +106,7 @@ fn is_round_close(kind: &TokenKind) -> bool
 /// `function(inner)`, with the places of the name and both brackets.
 #[derive(Drop)]
 pub struct Called<'a> {
-    pub function: &'a [u8],
+    pub function: LentCallee<'a>,
     pub place: Place,
     pub opening: Place,
     pub inner: &'a [Token],
@@ -101,8 +115,8 @@ pub struct Called<'a> {
 
 /// A call, if the tokens have its form.
 pub fn call(tokens: &[Token]) -> Option<Called<'_>>
-    ensures some { IfSome result (λ c. spec.call tokens.now ≡ spec.calls c.function.now c.place c.opening (closed_in c.inner.now c.close)) }
-    ensures none { IfNone result (spec.call tokens.now ≡ spec.unknown) }
+    ensures some { IfSome result (λ c. spec.call_form tokens.now ≡ spec.calls (callee_lent c.function) c.place c.opening (closed_in c.inner.now c.close)) }
+    ensures none { IfNone result (spec.call_form tokens.now ≡ spec.unknown) }
 {
     let [first, second, rest @ ..] = tokens else {
         return None;
@@ -166,8 +180,8 @@ pub struct Assigned<'a> {
 
 /// An assignment, if the tokens have its form.
 pub fn assignment_of(tokens: &[Token]) -> Option<Assigned<'_>>
-    ensures some { IfSome result (λ a. spec.assign tokens.now ≡ spec.assigns a.target.now a.op a.place a.value.now) }
-    ensures none { IfNone result (spec.assign tokens.now ≡ spec.unknown) }
+    ensures some { IfSome result (λ a. spec.assignment_form tokens.now ≡ spec.assigns a.target.now a.op a.place a.value.now) }
+    ensures none { IfNone result (spec.assignment_form tokens.now ≡ spec.unknown) }
 {
     let at = first_outside(Stop::Assignment, tokens)?;
     assigned_at(&tokens[..at], &tokens[at..])

@@ -1,12 +1,14 @@
 //! Structs, prototypes and functions (ISO/IEC 9899:1999, 6.7 and 6.9).
 ghost use Rattle.std.specs.Prelude.{◌≡◌, ◌+◌, ◌<◌, ◌≤◌, ◌∷◌, length, Bool, Err, IfOk, IfSome, IfNone};
-ghost use Rattle.c_mean.specs.Refusal.{Gives};
-ghost use Rattle.c_mean.specs.Brackets as brackets;
-ghost use Rattle.c_mean.specs.Sequence.{all_read};
-ghost use Rattle.c_mean.specs.Symbol.{is_semicolon, keyword_of};
-ghost use Rattle.c_mean.specs.Cut as spec;
-ghost use Rattle.c_mean.specs.declared.symbol.Bracket.TheVariants.{Brace};
-ghost use Rattle.c_mean.specs.ExpressionCut.{closed, closed_in};
+ghost use Rattle.c_text.specs.Refusal.{Gives};
+ghost use Rattle.c_tree.specs.Brackets as brackets;
+ghost use Rattle.c_tree.specs.Sequence.{all_read};
+ghost use Rattle.c_tree.specs.Symbol.{is_semicolon, keyword_of};
+ghost use Rattle.c_tree.specs.UnitCut as spec;
+ghost use Rattle.c_tree.specs.StructCut as struct_cut;
+ghost use Rattle.c_tree.specs.FunctionCut as function_cut;
+ghost use Rattle.c_tree.specs.declared.symbol.Bracket.TheVariants.{Brace};
+ghost use Rattle.c_tree.specs.ExpressionCut.{closed, closed_in};
 ghost use Rattle.c_parser.specs.Head.{head_of, tail_view, ReturnsItem};
 
 use crate::declarations::{fields, parameters};
@@ -16,10 +18,8 @@ use c_expression::{
     Stop, behind, closed, closes, closing, depth_after, first_outside, front_type, inside,
     is_round, keyword, mark, name, opens, syntax,
 };
-use c_mean::{
-    Bracket, CFault, CType, Field, Function, Item, Keyword, Place, Punctuator, Stmt, Struct, Token,
-    TokenKind,
-};
+use c_text::{CFault, Place, Token, TokenKind};
+use c_tree::{Bracket, CType, Field, Function, Item, Keyword, MOST_OPEN, Punctuator, Stmt, Struct};
 use cg_out::{List, Text};
 use std::alloc::Global;
 
@@ -65,7 +65,7 @@ fn item(
 
 /// A struct, from the tokens between `struct` and the semicolon.
 fn struct_of(alloc: Global, first: Place, tokens: &[Token]) -> Result<Item, CFault>
-    ensures { Gives (λ i. i) result (spec.struct_of first tokens.now) }
+    ensures { Gives (λ i. i) result (struct_cut.struct_of first tokens.now) }
 {
     let [token, brace, rest @ ..] = tokens else {
         return Err(syntax(first));
@@ -123,7 +123,7 @@ fn item_end(tokens: &[Token]) -> Option<usize>
 
 /// A prototype or a function, from all its tokens.
 fn function_item(alloc: Global, first: Place, tokens: &[Token]) -> Result<Item, CFault>
-    ensures { Gives (λ i. i) result (spec.function_item first tokens.now) }
+    ensures { Gives (λ i. i) result (function_cut.function_item first tokens.now) }
 {
     let [token, rest @ ..] = tokens else {
         return Err(syntax(first));
@@ -137,7 +137,7 @@ fn function_item(alloc: Global, first: Place, tokens: &[Token]) -> Result<Item, 
 
 /// From the tokens behind an optional `static`.
 fn function_of(alloc: Global, first: Place, fixed: bool, tokens: &[Token]) -> Result<Item, CFault>
-    ensures { Gives (λ i. i) result (spec.function_of first fixed tokens.now) }
+    ensures { Gives (λ i. i) result (function_cut.function_of first fixed tokens.now) }
 {
     match returns_of(tokens) {
         Some((returns, rest)) => with_returns(alloc, first, fixed, returns, rest),
@@ -147,7 +147,7 @@ fn function_of(alloc: Global, first: Place, fixed: bool, tokens: &[Token]) -> Re
 
 /// `void` or a type of integers, and the tokens behind it.
 fn returns_of(tokens: &[Token]) -> Option<(CType, &[Token])>
-    ensures some { IfSome result (λ r. ReturnsItem tokens.now (λ first fixed. spec.with_returns first fixed r.0 r.1.now)) }
+    ensures some { IfSome result (λ r. ReturnsItem tokens.now (λ first fixed. function_cut.with_returns first fixed r.0 r.1.now)) }
     ensures none { IfNone result (ReturnsItem tokens.now (λ first fixed. Err (brackets.syntax first))) }
 {
     match tokens {
@@ -177,7 +177,7 @@ fn with_returns(
     returns: CType,
     tokens: &[Token],
 ) -> Result<Item, CFault>
-    ensures { Gives (λ i. i) result (spec.with_returns first fixed returns tokens.now) }
+    ensures { Gives (λ i. i) result (function_cut.with_returns first fixed returns tokens.now) }
 {
     let [token, open, rest @ ..] = tokens else {
         return Err(syntax(first));
@@ -210,7 +210,7 @@ fn with_tail(
     close: Place,
     tail: &[Token],
 ) -> Result<Item, CFault>
-    ensures { Gives (λ i. i) result (spec.with_tail first (head_of head) (closed_in inner.now close) (spec.tail_of tail.now)) }
+    ensures { Gives (λ i. i) result (function_cut.with_tail first (head_of head) (closed_in inner.now close) (function_cut.tail_of tail.now)) }
 {
     match tail_of(tail) {
         Tail::Prototype(end) => {
@@ -219,7 +219,7 @@ fn with_tail(
         }
         Tail::Definition { brace, body, end } => {
             let params = parameters(alloc, inner, close)?;
-            let body = statements(alloc, body, false, inside(64, brace)?, end)?;
+            let body = statements(alloc, body, false, inside(MOST_OPEN, brace)?, end)?;
             Ok(function(head, params, Some(body), end))
         }
         Tail::Unfinished => Err(syntax(first)),
@@ -242,7 +242,7 @@ enum Tail<'a> {
 }
 
 fn tail_of(tokens: &[Token]) -> Tail<'_>
-    ensures { tail_view result ≡ spec.tail_of tokens.now }
+    ensures { tail_view result ≡ function_cut.tail_of tokens.now }
 {
     match tokens {
         [] => Tail::Unfinished,
@@ -258,7 +258,7 @@ fn tail_of(tokens: &[Token]) -> Tail<'_>
 }
 
 fn body_of<'a>(first: &Token, rest: &'a [Token]) -> Tail<'a>
-    ensures { tail_view result ≡ spec.body_tail (brackets.opens first.now.kind) first.now.place (closed rest.now) }
+    ensures { tail_view result ≡ function_cut.body_tail (brackets.opens first.now.kind) first.now.place (closed rest.now) }
 {
     if !is_brace(&first.kind) {
         return Tail::Unfinished;
@@ -274,7 +274,7 @@ fn body_of<'a>(first: &Token, rest: &'a [Token]) -> Tail<'a>
 }
 
 fn function(head: Head, params: List<Field>, body: Option<List<Stmt>>, close: Place) -> Item
-    ensures { result ≡ spec.function (head_of head) params body close }
+    ensures { result ≡ function_cut.function (head_of head) params body close }
 {
     Item::Function(Function {
         fixed: head.fixed,

@@ -1,16 +1,14 @@
 //! Whether the brackets of a unit match.
 ghost use Rattle.std.specs.Prelude.{◌≡◌, ◌+◌, ◌<◌, ◌≤◌, ◌^◌, length, [], IfOk, IfErr};
-ghost use Rattle.c_mean.specs.declared.refusal.CFault.TheVariants.{Memory};
-ghost use Rattle.c_mean.specs.Refusal.{Gives};
-ghost use Rattle.c_mean.specs.Brackets as spec;
+ghost use Rattle.c_text.specs.declared.refusal.CFault.TheVariants.{Memory};
+ghost use Rattle.c_text.specs.Refusal.{Gives};
+ghost use Rattle.c_tree.specs.Brackets as spec;
 ghost use Rattle.c_parser.specs.Matching.{stack_of, unmatched, IsFound, IsWalked};
 
 use c_expression::{closes, depth_after, opens};
-use c_mean::{Bracket, CFault, CKind, Place, Token};
+use c_text::{CFault, CKind, Place, Token};
+use c_tree::{Bracket, MOST_OPEN};
 use std::alloc::Global;
-
-/// The most brackets that may be open at a place.
-const MOST_OPEN: usize = 64;
 
 /// A bracket that is open, behind so many tokens.
 #[derive(Clone, Copy, Debug)]
@@ -105,7 +103,7 @@ fn first_deep(tokens: &[Token]) -> Option<Found>
     let mut depth = 0;
     for (at, token) in tokens.iter().enumerate() {
         depth = depth_after(&token.kind, depth);
-        if depth > MOST_OPEN {
+        if depth > MOST_OPEN as usize {
             return Some(Found {
                 at,
                 kind: CKind::TooDeep,
@@ -117,7 +115,7 @@ fn first_deep(tokens: &[Token]) -> Option<Found>
 }
 
 /// That the brackets of the tokens match, else the one fault of the tokens.
-#[tactic(auto, unfolding(c_mean::specs::Brackets::bracket_fault))]
+#[tactic(auto, unfolding(c_tree::specs::Brackets::bracket_fault))]
 pub fn matched(alloc: Global, tokens: &[Token]) -> Result<(), CFault>
     ensures { Gives (λ x. x) result (unmatched (spec.bracket_fault tokens.now)) }
 {

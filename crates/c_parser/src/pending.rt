@@ -1,12 +1,13 @@
 //! The `if`s of a statement (ISO/IEC 9899:1999, 6.8.4.1), which wait in a stack for their branches:
 //! neither an `if` in an `if` nor an `else if` takes a call of its own.
 ghost use Rattle.std.specs.Prelude.{◌≡◌, ◌≤◌, length, drop, IfOk, IfNone, IfSome};
-ghost use Rattle.c_mean.specs.declared.statement.StmtKind.TheVariants as k;
-ghost use Rattle.c_mean.specs.StatementCut as spec;
+ghost use Rattle.c_tree.specs.declared.statement.StmtKind.TheVariants as k;
+ghost use Rattle.c_tree.specs.StatementCut as spec;
 ghost use Rattle.c_parser.specs.Pending.{IsIf, IsPlain, IsHead, has_else, Joins, IsWithin, Descends, Ascends};
 
 use c_expression::{behind, closing, cut, inside, is_round, keyword, syntax};
-use c_mean::{CFault, Expr, Keyword, Place, Stmt, StmtKind, Token};
+use c_text::{CFault, Place, Token};
+use c_tree::{Expr, Keyword, Stmt, StmtKind};
 use cg_out::{Boxed, Memory};
 use std::alloc::Global;
 

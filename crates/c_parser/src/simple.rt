@@ -1,12 +1,16 @@
 //! Statements that end with a semicolon.
-ghost use Rattle.c_mean.specs.Refusal.{Gives};
-ghost use Rattle.c_mean.specs.ExpressionCut.{closed_in};
-ghost use Rattle.c_mean.specs.StatementCut as spec;
+ghost use Rattle.c_text.specs.Refusal.{Gives};
+ghost use Rattle.c_tree.specs.ExpressionCut.{closed_in};
+ghost use Rattle.c_tree.specs.StatementCut as spec;
+ghost use Rattle.c_expression.specs.Callee.{callee_lent};
 ghost use Rattle.c_parser.specs.Form.{value_of};
 
-use crate::forms::{Assigned, Called, Declared, assignment_of, call, declaration, discard};
+use crate::forms::{
+    Assigned, Called, Declared, Discarded, assignment_of, call, declaration, discard,
+};
 use c_expression::{arguments, cut, inside, keyword, syntax};
-use c_mean::{CFault, Keyword, Place, Stmt, StmtKind, Token};
+use c_text::{CFault, Place, Token};
+use c_tree::{Keyword, Stmt, StmtKind};
 use cg_out::Text;
 use std::alloc::Global;
 
@@ -61,7 +65,7 @@ fn return_of(
     })
 }
 
-#[tactic(auto, unfolding(c_mean::specs::StatementCut::form_of))]
+#[tactic(auto, unfolding(c_tree::specs::StatementCut::form_of))]
 fn by_form(
     alloc: Global,
     place: Place,
@@ -74,11 +78,8 @@ fn by_form(
     if let Some(form) = declaration(tokens) {
         return declare(alloc, &form, room, after);
     }
-    if let Some((name, place)) = discard(tokens) {
-        return Ok(Stmt {
-            place,
-            kind: StmtKind::Discard(Text::copy_of(alloc, name)?),
-        });
+    if let Some(form) = discard(tokens) {
+        return discard_statement(alloc, &form, room);
     }
     if let Some(form) = call(tokens) {
         return call_statement(alloc, &form, room);
@@ -106,14 +107,24 @@ fn declare(alloc: Global, form: &Declared<'_>, room: u32, after: Place) -> Resul
     })
 }
 
+fn discard_statement(alloc: Global, form: &Discarded<'_>, room: u32) -> Result<Stmt, CFault>
+    ensures { Gives (λ s. s) result (spec.discard_statement room form.now.name.now form.now.place form.now.opening) }
+{
+    inside(room, form.opening)?;
+    Ok(Stmt {
+        place: form.place,
+        kind: StmtKind::Discard(Text::copy_of(alloc, form.name)?),
+    })
+}
+
 fn call_statement(alloc: Global, form: &Called<'_>, room: u32) -> Result<Stmt, CFault>
-    ensures { Gives (λ s. s) result (spec.call_statement room form.now.function.now form.now.place form.now.opening (closed_in form.now.inner.now form.now.close)) }
+    ensures { Gives (λ s. s) result (spec.call_statement room (callee_lent form.now.function) form.now.place form.now.opening (closed_in form.now.inner.now form.now.close)) }
 {
     let args = arguments(alloc, form.inner, inside(room, form.opening)?, form.close)?;
     Ok(Stmt {
         place: form.place,
         kind: StmtKind::Call {
-            function: Text::copy_of(alloc, form.function)?,
+            function: form.function.copied(alloc)?,
             args,
         },
     })

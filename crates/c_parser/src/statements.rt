@@ -1,12 +1,12 @@
 //! Statements (ISO/IEC 9899:1999, 6.8).
 ghost use Rattle.std.specs.Prelude.{◌≡◌, ◌+◌, ◌<◌, ◌≤◌, ◌∷◌, length, drop, IfOk, IfSome};
-ghost use Rattle.c_mean.specs.Refusal.{Gives};
-ghost use Rattle.c_mean.specs.Brackets as brackets;
-ghost use Rattle.c_mean.specs.Sequence.{all_read};
-ghost use Rattle.c_mean.specs.StatementCut as spec;
+ghost use Rattle.c_text.specs.Refusal.{Gives};
+ghost use Rattle.c_tree.specs.Brackets as brackets;
+ghost use Rattle.c_tree.specs.Sequence.{all_read};
+ghost use Rattle.c_tree.specs.StatementCut as spec;
 ghost use Rattle.c_parser.specs.Label.{IsLabel};
 ghost use Rattle.c_parser.specs.Pending.{plain_step};
-ghost use Rattle.c_mean.specs.Symbol.{is_colon, is_semicolon};
+ghost use Rattle.c_tree.specs.Symbol.{is_colon, is_semicolon};
 
 use crate::case_value::case_value;
 use crate::pending::{ascend, descend};
@@ -15,7 +15,8 @@ use c_expression::{
     Stop, behind, closing, cut, first_outside, inside, is_round, is_type_word, keyword, mark,
     opens, syntax,
 };
-use c_mean::{Bracket, CFault, Keyword, Place, Punctuator, Stmt, StmtKind, SwitchPart, Token};
+use c_text::{CFault, Place, Token};
+use c_tree::{Bracket, Keyword, Punctuator, Stmt, StmtKind, SwitchPart};
 use cg_out::List;
 use std::alloc::Global;
 
@@ -30,7 +31,7 @@ fn statement(
     room: u32,
     after: Place,
 ) -> Result<(Stmt, usize), CFault>
-    ensures value { Gives (λ s. s) result (spec.read may_break room tokens.now after) }
+    ensures value { Gives (λ s. s) result (spec.statement_of may_break room tokens.now after) }
     ensures within { IfOk result (λ s. s.1 < length tokens.now) }
 {
     let mut pending = Vec::new(alloc);
@@ -56,7 +57,7 @@ fn plain_statement(
     room: u32,
     after: Place,
 ) -> Result<(Stmt, usize), CFault>
-    ensures value { Gives (λ s. s) result (plain_step spec.read may_break room tokens.now after) }
+    ensures value { Gives (λ s. s) result (plain_step spec.statement_of may_break room tokens.now after) }
     ensures within { IfOk result (λ s. s.1 < length tokens.now) }
 {
     let [first, rest @ ..] = tokens else {
@@ -128,7 +129,7 @@ pub fn statements(
     room: u32,
     after: Place,
 ) -> Result<List<Stmt>, CFault>
-    ensures { Gives (λ ss. ss) result (all_read (spec.each spec.read may_break room after) 0 tokens.now) }
+    ensures { Gives (λ ss. ss) result (all_read (spec.each spec.statement_of may_break room after) 0 tokens.now) }
 {
     let mut list = List::new(alloc);
     let mut left = tokens;
@@ -149,7 +150,7 @@ fn switch_statement(
     room: u32,
     after: Place,
 ) -> Result<(Stmt, usize), CFault>
-    ensures value { Gives (λ s. s) result (spec.switch_open spec.read room place tokens.now after) }
+    ensures value { Gives (λ s. s) result (spec.switch_open spec.statement_of room place tokens.now after) }
     ensures within { IfOk result (λ s. s.1 ≤ length tokens.now) }
 {
     let [open, rest @ ..] = tokens else {
@@ -195,7 +196,7 @@ fn switch_parts(
     room: u32,
     after: Place,
 ) -> Result<List<SwitchPart>, CFault>
-    ensures { Gives (λ ps. ps) result (all_read (spec.part spec.read room after) 0 tokens.now) }
+    ensures { Gives (λ ps. ps) result (all_read (spec.switch_part spec.statement_of room after) 0 tokens.now) }
 {
     let mut parts = List::new(alloc);
     let mut left = tokens;

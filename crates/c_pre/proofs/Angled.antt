@@ -1,10 +1,10 @@
 -- The name of an included header, token by token.
 use Rattle.std.proofs.Common.{◌≡◌, ℕ, ◌+◌, ◌<◌, ◌≤◌, suc, true, List, [], ◌∷◌, ◌++◌, length, drop, get_or, codes, Option, Some, None, option_map, refl, ap, ◌∙◌, arith, eq-eqb, drop-cons, length-drop}
-use Rattle.c_mean.specs.declared.token.Token.{Token}
-use Rattle.c_mean.specs.declared.token.TokenKind.{TokenKind}
-use Rattle.c_mean.specs.SeenToken.{seen_behind}
-use Rattle.c_mean.specs.StandardHeader.{is_mark}
-use Rattle.c_mean.specs.Directive.{up_to_greater}
+use Rattle.c_text.specs.declared.token.Token.{Token}
+use Rattle.c_text.specs.declared.token.TokenKind.{TokenKind}
+use Rattle.c_text.specs.SeenToken.{seen_behind}
+use Rattle.c_text.specs.StandardHeader.{is_mark}
+use Rattle.c_text.specs.Directive.{up_to_greater}
 use Rattle.c_pre.specs.Shown.{kinds}
 
 -- what stands before the `>`, behind these tokens

@@ -1,8 +1,8 @@
 -- Bodies of macros.
 use Rattle.std.proofs.Common.{◌≡◌, ◌&&◌, false, List, [], ◌∷◌, length, refl, ap, ◌∙◌, arith}
 use Rattle.std.proofs.Math.Bool.{and-false}
-use Rattle.c_mean.specs.declared.token.Token.{Token}
-use Rattle.c_mean.specs.MacroDefinition.{same_kind, same_body}
+use Rattle.c_text.specs.declared.token.Token.{Token}
+use Rattle.c_text.specs.MacroDefinition.{same_kind, same_body}
 use Rattle.c_pre.specs.Shown.{flats}
 
 pub same_body-longer : (xs ys : List Token) → (length xs ≡ length ys → ⊥) → same_body (flats xs) (flats ys) ≡ false

@@ -2,11 +2,11 @@
 use Rattle.std.proofs.Common.{◌≡◌, ℕ, suc, ◌+◌, ◌<◌, ◌≤◌, Bool, true, false, cond, ◌&&◌, not, codes, List, [], ◌∷◌, ◌++◌, map, length, get_or, take, drop, Option, Some, None, refl, sym, ap, ◌∙◌, arith, append_assoc}
 use Rattle.std.proofs.lemmas.List.{map-append}
 use Rattle.std.specs.List.{prefix_len}
-use Rattle.c_mean.specs.declared.place.Place.{Place}
-use Rattle.c_mean.specs.declared.token.Token.{Token}
-use Rattle.c_mean.specs.SeenToken.{Seen, is_end, seen_behind}
-use Rattle.c_mean.specs.Directive.{Line, text, begins_fresh, before_lines, lines, directive, line_of, lines_of}
-use Rattle.c_mean.specs.StandardHeader.{is_mark}
+use Rattle.c_text.specs.declared.place.Place.{Place}
+use Rattle.c_text.specs.declared.token.Token.{Token}
+use Rattle.c_text.specs.SeenToken.{Seen, is_end, seen_behind}
+use Rattle.c_text.specs.Directive.{Line, text, begins_fresh, before_lines, lines, directive, line_of, lines_of}
+use Rattle.c_text.specs.StandardHeader.{is_mark}
 use Rattle.c_pre.specs.declared.line.Line.{Line as CodeLine}
 use Rattle.c_pre.proofs.Seen.{unjoined_seen}
 use Rattle.c_pre.specs.Shown.{flats, shown, unjoined, told, starts_line, before_cut, cut}

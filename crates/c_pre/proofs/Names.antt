@@ -4,16 +4,18 @@ use Rattle.std.specs.List.{list_any}
 use Rattle.std.proofs.lemmas.List.{map-append}
 use Rattle.std.proofs.lemmas.Bool.Decides.{same_from_decides}
 use Rattle.std.proofs.lemmas.Slice.Eq.{bytes_eq-Decides}
-use Rattle.c_mean.specs.declared.place.Place.{Place}
-use Rattle.c_mean.specs.declared.token.TokenKind.{TokenKind}
-use Rattle.c_mean.specs.SeenToken.{Seen, token_of}
-use Rattle.c_mean.specs.StandardHeader.{Header, stdbool_h, stddef_h, stdint_h, string_h, kind_in}
-use Rattle.c_mean.specs.Directive.{Line, text, standard, quoted, define, conditional, otherwise, endif, unbalanced, refused, word_of}
-use Rattle.c_mean.specs.MacroDefinition.{or_else, first_by, body_by, body_of, is_macro, same_kind, same_body}
-use Rattle.c_mean.specs.Preprocessing.{each_behind, Named, macros_at, put_for, body_for, kind_by, replaced_by, replaced_word, replaced, macro_of}
-use Rattle.c_mean.proofs.Group.{first_by-append}
+use Rattle.c_text.specs.declared.place.Place.{Place}
+use Rattle.c_text.specs.declared.token.TokenKind.{TokenKind}
+use Rattle.c_text.specs.SeenToken.{Seen, token_of}
+use Rattle.c_text.specs.StandardHeader.{Header, stdbool_h, stddef_h, stdint_h, string_h, kind_in}
+use Rattle.c_text.specs.Directive.{Line, text, standard, quoted, define, conditional, otherwise, endif, unbalanced, refused, word_of}
+use Rattle.cg_out.specs.Words.{or_else}
+use Rattle.c_text.specs.MacroDefinition.{first_by, body_by, body_of, is_macro, same_kind, same_body}
+use Rattle.c_text.specs.Preprocessing.{each_behind, NamedBody, macros_at, put_for, body_for, kind_by, replaced_by, replaced_word, replaced, macro_of}
+use Rattle.c_text.proofs.Group.{first_by-append}
 use Rattle.c_pre.specs.Shown.{unjoin}
 use Rattle.c_pre.specs.Run.{look, kind_among, same_header, with_header, written_word, written}
+use Rattle.cg_out.proofs.WordLaws.{or_else-none, or_else-assoc}
 
 -- ---- headers
 
@@ -52,18 +54,10 @@ same-header string_h stdbool_h e = cc
 same-header string_h stddef_h e = cc
 same-header string_h stdint_h e = cc
 
-or_else-assoc : {X : Type 0} (x y z : Option X) → or_else (or_else x y) z ≡ or_else x (or_else y z)
-or_else-assoc (Some x) y z = refl
-or_else-assoc None y z = refl
-
 or_else-twice : {X : Type 0} (x y : Option X) → or_else (or_else x y) x ≡ or_else x y
 or_else-twice (Some x) y = refl
 or_else-twice None None = refl
 or_else-twice None (Some y) = refl
-
-or_else-none : {X : Type 0} (x : Option X) → or_else x None ≡ x
-or_else-none (Some x) = refl
-or_else-none None = refl
 
 kind_among-append : (hs : List Header) (h : Header) (name : List ℕ) → kind_among (hs ++ h ∷ []) name ≡ or_else (kind_among hs name) (kind_in h name)
 kind_among-append [] h name = or_else-none (kind_in h name)
@@ -105,10 +99,10 @@ kinds-behind hs (refused p kind ∷ ls) name = kinds-behind hs ls name
 abbrev pub open_body : List (Seen Place) → List (Seen Place)
 open_body ts = map unjoin ts
 
-abbrev pub open_macro : Named Place → Named Place
+abbrev pub open_macro : NamedBody Place → NamedBody Place
 open_macro m = (m.0, open_body m.1)
 
-abbrev pub macros_of : List (Line Place) → List (Named Place)
+abbrev pub macros_of : List (Line Place) → List (NamedBody Place)
 macros_of before = map open_macro (each_behind macros_at [] before)
 
 is-some : (o : Option (List (Seen Place))) → is_some (option_map open_body o) ≡ is_some o
@@ -139,7 +133,7 @@ bytes-same xs ys = let d = bytes_eq-Decides ys xs in same_from_decides (bytes_eq
 looks-define : (name : List ℕ) (before : List (Line Place)) (p : Place) (n : List ℕ) (body : List (Seen Place)) (ls : List (Line Place)) → Looks name (before ++ define p n body ∷ []) ls → Looks name before (define p n body ∷ ls)
 looks-define name before p n body ls more h = by (bytes_eq n name) refl
   where
-    rest : List (Named Place)
+    rest : List (NamedBody Place)
     rest = each_behind macros_at (before ++ define p n body ∷ []) ls
 
     past : (c : Bool) → is_macro n before ≡ c → bytes_eq n name ≡ false → look name (map open_macro (each_behind macros_at before (define p n body ∷ ls))) ≡ look name (map open_macro rest)
@@ -214,6 +208,6 @@ written-behind before (t ∷ ts) =
     map-append token_of (replaced_word before t (word_of t.kind)) (replaced before ts)
     ∙ (λ i. word-open before t (word_of t.kind) i ++ written-behind before ts i)
 
-pub macros-kept : (ms : List (Named Place)) → map macro_of (map open_macro ms) ≡ map macro_of ms
+pub macros-kept : (ms : List (NamedBody Place)) → map macro_of (map open_macro ms) ≡ map macro_of ms
 macros-kept [] = refl
 macros-kept (m ∷ ms) = (λ i. record { name = m.0; body = open-kept m.1 i } ∷ macros-kept ms i)

@@ -1,22 +1,23 @@
 -- Line by line: what is left behind each line is what the definition leaves of the lines up to it.
 use Rattle.std.proofs.Common.{◌≡◌, ℕ, Bool, true, false, cond, List, [], ◌∷◌, ◌++◌, map, Option, Some, None, option_map, is_some, Result, Ok, Err, refl, sym, ap, ◌∙◌, append_assoc, append-nil}
 use Rattle.std.proofs.lemmas.List.{map-append}
-use Rattle.c_mean.specs.declared.place.Place.{Place}
-use Rattle.c_mean.specs.declared.token.Token.{Token}
-use Rattle.c_mean.specs.declared.preprocessed.Preprocessed.{Preprocessed}
-use Rattle.c_mean.specs.declared.refusal.CKind.TheVariants.{Redefined}
-use Rattle.c_mean.specs.declared.refusal.CFault.{CFault}
-use Rattle.c_mean.specs.declared.refusal.CFault.TheVariants.{Fault, Memory}
-use Rattle.c_mean.specs.declared.preprocessed.Macro.{Macro}
-use Rattle.c_mean.specs.Refusal.{Refusal, Gives}
-use Rattle.c_mean.specs.SeenToken.{Seen, seen_behind, token_of}
-use Rattle.c_mean.specs.Directive.{Line, text, standard, quoted, define, conditional, otherwise, endif, unbalanced, refused, lines_of}
-use Rattle.c_mean.specs.MacroDefinition.{is_macro, body_of, same_bool, same_body}
-use Rattle.c_mean.specs.Conditional.{balanced, is_read, left_by, reads_behind, read_lines}
-use Rattle.c_mean.specs.Preprocessing.{header_lines, each_behind, Fault as PlacedFault, unless_same, faults_at, Named, macros_at, tokens_at, unless_fault, macro_of, placed_left, preprocessed}
-use Rattle.c_mean.proofs.Group.{each_behind-append}
+use Rattle.c_text.specs.declared.place.Place.{Place}
+use Rattle.c_text.specs.declared.token.Token.{Token}
+use Rattle.c_text.specs.declared.preprocessed.Preprocessed.{Preprocessed}
+use Rattle.c_text.specs.declared.refusal.CKind.TheVariants.{Redefined}
+use Rattle.c_text.specs.declared.refusal.CFault.{CFault}
+use Rattle.c_text.specs.declared.refusal.CFault.TheVariants.{Fault, Memory}
+use Rattle.c_text.specs.declared.preprocessed.Macro.{Macro}
+use Rattle.c_text.specs.Refusal.{Refusal, Gives}
+use Rattle.c_text.specs.SeenToken.{Seen, seen_behind, token_of}
+use Rattle.c_text.specs.Directive.{Line, text, standard, quoted, define, conditional, otherwise, endif, unbalanced, refused, lines_of}
+use Rattle.c_text.specs.MacroDefinition.{is_macro, body_of, same_body}
+use Rattle.cg_out.specs.Words.{◌>>=◌, same_bool}
+use Rattle.c_text.specs.Conditional.{balanced, is_read, left_by, reads_behind, read_lines}
+use Rattle.c_text.specs.Preprocessing.{header_lines, each_behind, Fault as PlacedFault, unless_same, faults_at, NamedBody, macros_at, tokens_at, unless_fault, macro_of, placed_left, preprocessed}
+use Rattle.c_text.proofs.Group.{each_behind-append}
 use Rattle.c_pre.specs.Shown.{unjoined, told, cut}
-use Rattle.c_pre.specs.Run.{Progress, nothing_left, with_header, written, redefined, defined, taken, passed, reads_then, and_then, ran, ran_header}
+use Rattle.c_pre.specs.Run.{Progress, nothing_left, with_header, written, redefined, defined, taken, passed, reads_then, ran, ran_header}
 use Rattle.c_pre.proofs.Cut.{lines-told}
 use Rattle.c_pre.proofs.Unjoined.{balanced-unjoined}
 use Rattle.c_pre.proofs.Names.{headers_of, headers_of-append, open_body, open_macro, macros_of, look-macros, is_macro-look, same_body-open, written-behind, macros-kept}
@@ -50,7 +51,7 @@ macros-one before l =
     ∙ map-append open_macro (each_behind macros_at [] before) (macros_at before l)
 
 -- behind a line that leaves these tokens and macros, and these headers
-progress-one : (before : List (Line Place)) (l : Line Place) (ts : List Token) (ms : List (Named Place)) (hs : List _)
+progress-one : (before : List (Line Place)) (l : Line Place) (ts : List Token) (ms : List (NamedBody Place)) (hs : List _)
     → map token_of (tokens_at before l) ≡ ts → map open_macro (macros_at before l) ≡ ms → headers_of (headers_of [] before) (l ∷ []) ≡ hs
     → progress_of (before ++ l ∷ []) ≡ record { tokens = tokens_behind before ++ ts; macros = macros_of before ++ ms; headers = hs }
 progress-one before l ts ms hs t m h = (λ i. record {
@@ -143,7 +144,7 @@ reads-are reads before (unbalanced p) = refl
 reads-are reads before (refused p kind) = refl
 
 -- one part behind another
-joined : (xs ys : List (PlacedFault Place)) (s t : Progress) (go : Progress → Result Progress Refusal) → go s ≡ outcome ys t → and_then (outcome xs s) go ≡ outcome (xs ++ ys) t
+joined : (xs ys : List (PlacedFault Place)) (s t : Progress) (go : Progress → Result Progress Refusal) → go s ≡ outcome ys t → (outcome xs s >>= go) ≡ outcome (xs ++ ys) t
 joined [] ys s t go e = e
 joined (x ∷ xs) ys s t go e = refl
 
@@ -153,7 +154,7 @@ ran-is q h inc reads before (l ∷ ls) =
     let new = left_by h reads before l in
     let then = reads_behind reads before l in
     let rest = read_lines h then (before ++ new) ls in
-    (λ i. and_then (passed-is q h inc reads before l i) (λ s. ran q (reads-are reads before l i) s (map unjoined ls)))
+    (λ i. passed-is q h inc reads before l i >>= λ s. ran q (reads-are reads before l i) s (map unjoined ls))
     ∙ joined (each_behind faults_at before new) (each_behind faults_at (before ++ new) rest) (progress_of (before ++ new)) (progress_of ((before ++ new) ++ rest)) (λ s. ran q then s (map unjoined ls)) (ran-is q h inc then (before ++ new) ls)
     ∙ (λ i. outcome (sym (each_behind-append faults_at before new rest) i) (progress_of (append_assoc before new rest i)))
 
@@ -162,7 +163,7 @@ ran-is q h inc reads before (l ∷ ls) =
 abbrev pub finished : Progress → Result Preprocessed Refusal
 finished s = Ok (record { tokens = s.tokens; macros = map macro_of s.macros })
 
-placed : (fs : List (PlacedFault Place)) (ls : List (Line Place)) → and_then (outcome fs (progress_of ls)) finished ≡ placed_left (unless_fault fs (each_behind tokens_at [] ls, each_behind macros_at [] ls))
+placed : (fs : List (PlacedFault Place)) (ls : List (Line Place)) → (outcome fs (progress_of ls) >>= finished) ≡ placed_left (unless_fault fs (each_behind tokens_at [] ls, each_behind macros_at [] ls))
 placed [] ls = ap (λ ms. Ok (record { tokens = tokens_behind ls; macros = ms })) (macros-kept (each_behind macros_at [] ls))
 placed (f ∷ fs) ls = refl
 
@@ -182,21 +183,21 @@ header-included header before =
     ∙ ran-is (λ s. Ok s) (λ ls. []) nothing-included [] before (balanced [] (lines_of None (seen_behind None header)))
 
 pub expanded : (header : List Token) (name : List ℕ) (source : List Token)
-    → and_then (ran (ran_header (file_lines None header)) [] nothing_left (file_lines (Some name) source)) finished ≡ preprocessed header name source
+    → (ran (ran_header (file_lines None header)) [] nothing_left (file_lines (Some name) source) >>= finished) ≡ preprocessed header name source
 expanded header name source =
     let hs = seen_behind None header in
     let ls = balanced [] (lines_of (Some name) (seen_behind None source)) in
     let all = read_lines (header_lines hs) [] [] ls in
-    ap (λ r. and_then r finished) (ap (ran (ran_header (file_lines None header)) [] nothing_left) (file-lines (Some name) source)
+    ap (λ r. r >>= finished) (ap (ran (ran_header (file_lines None header)) [] nothing_left) (file-lines (Some name) source)
     ∙ ran-is (ran_header (file_lines None header)) (header_lines hs) (header-included header) [] [] ls)
     ∙ placed (each_behind faults_at [] all) all
 
 -- ---- what the code returns
 
 run-is : (header : List Token) (name : List ℕ) (source : List Token) (hs ss : List (Line Place)) (start : Progress) (r : Result Progress Refusal)
-    → hs ≡ file_lines None header → ss ≡ file_lines (Some name) source → start ≡ nothing_left → ran (ran_header hs) [] start ss ≡ r → and_then r finished ≡ preprocessed header name source
+    → hs ≡ file_lines None header → ss ≡ file_lines (Some name) source → start ≡ nothing_left → ran (ran_header hs) [] start ss ≡ r → (r >>= finished) ≡ preprocessed header name source
 run-is header name source hs ss start r h s n e =
-    ap (λ x. and_then x finished) (sym e ∙ (λ i. ran (ran_header (h i)) [] (n i) (s i))) ∙ expanded header name source
+    ap (λ x. x >>= finished) (sym e ∙ (λ i. ran (ran_header (h i)) [] (n i) (s i))) ∙ expanded header name source
 
 pub expanded-ok : (header : List Token) (name : List ℕ) (source : List Token) (hs ss : List (Line Place)) (start : Progress) (s : Progress) (ms : List Macro)
     → hs ≡ file_lines None header → ss ≡ file_lines (Some name) source → start ≡ nothing_left → ran (ran_header hs) [] start ss ≡ Ok s → ms ≡ map macro_of s.macros

@@ -1,12 +1,12 @@
 -- Tokens seen and tokens as they stand.
 use Rattle.std.proofs.Common.{◌≡◌, ℕ, ◌≤◌, Bool, ◌||◌, List, [], ◌∷◌, map, Option, Some, is_some, length, refl, ap, arith}
 use Rattle.std.specs.List.{list_any}
-use Rattle.c_mean.specs.declared.place.Place.{Place}
-use Rattle.c_mean.specs.declared.token.Token.{Token}
-use Rattle.c_mean.specs.declared.token.TokenKind.TheVariants.{Quoted}
-use Rattle.c_mean.specs.declared.refusal.CKind.TheVariants.{BadDirective}
-use Rattle.c_mean.specs.SeenToken.{seen_behind, token_of}
-use Rattle.c_mean.specs.Directive.{Line, refused, word_of, include_quoted, has_word, conditional_line, alone}
+use Rattle.c_text.specs.declared.place.Place.{Place}
+use Rattle.c_text.specs.declared.token.Token.{Token}
+use Rattle.c_text.specs.declared.token.TokenKind.TheVariants.{Quoted}
+use Rattle.c_text.specs.declared.refusal.CKind.TheVariants.{BadDirective}
+use Rattle.c_text.specs.SeenToken.{seen_behind, token_of}
+use Rattle.c_text.specs.Directive.{Line, refused, word_of, include_quoted, has_word, conditional_line, none_follow}
 use Rattle.c_pre.specs.Shown.{flat, flats, unjoin}
 
 -- ---- where the token before ends is open
@@ -25,9 +25,9 @@ flats_back (t ∷ ts) = ap (λ r. t ∷ r) (flats_back ts)
 
 -- ---- tokens too many
 
-pub alone-more : (p : Place) (l : Line Place) (end : Option ℕ) (ts : List Token) → 1 ≤ length ts → alone p l (seen_behind end ts) ≡ refused p BadDirective
-alone-more p l end [] h = absurd (omega arith)
-alone-more p l end (t ∷ ts) h = refl
+pub none_follow-more : (p : Place) (l : Line Place) (end : Option ℕ) (ts : List Token) → 1 ≤ length ts → none_follow p l (seen_behind end ts) ≡ refused p BadDirective
+none_follow-more p l end [] h = absurd (omega arith)
+none_follow-more p l end (t ∷ ts) h = refl
 
 pub quoted-more : (beside : Option (List ℕ)) (p : Place) (name : List ℕ) (end : Option ℕ) (ts : List Token) → 1 ≤ length ts → include_quoted beside p (Quoted name) (seen_behind end ts) ≡ refused p BadDirective
 quoted-more beside p name end [] h = absurd (omega arith)

@@ -6,16 +6,16 @@ use Rattle.std.proofs.lemmas.List.Folds.{list_all-append}
 use Rattle.std.proofs.Math.Bool.{and-false}
 use Rattle.std.proofs.Math.Seq.{take-append_seam, get_or-append_seam}
 use Rattle.std.proofs.Math.ListN.{get_or-append}
-use Rattle.c_mean.specs.declared.place.Place.{Place}
-use Rattle.c_mean.specs.Refusal.{Refusal}
-use Rattle.c_mean.specs.Directive.{Line, text, standard, quoted, define, conditional, otherwise, endif, unbalanced, refused}
-use Rattle.c_mean.specs.MacroDefinition.{same_bool}
-use Rattle.c_mean.specs.Conditional.{is_read}
+use Rattle.c_text.specs.declared.place.Place.{Place}
+use Rattle.c_text.specs.Refusal.{Refusal}
+use Rattle.c_text.specs.Directive.{Line, text, standard, quoted, define, conditional, otherwise, endif, unbalanced, refused}
+use Rattle.cg_out.specs.Words.{◌>>=◌, same_bool}
+use Rattle.c_text.specs.Conditional.{is_read}
 use Rattle.c_pre.specs.declared.line.Line.{Line as CodeLine}
 use Rattle.c_pre.specs.declared.parts.FileLine.{FileLine}
 use Rattle.c_pre.proofs.Whole.{shown-last}
 use Rattle.c_pre.specs.Shown.{shown}
-use Rattle.c_pre.specs.Run.{Progress, look, taken, passed, reads_then, and_then, ran}
+use Rattle.c_pre.specs.Run.{Progress, look, taken, passed, reads_then, ran}
 use Rattle.c_pre.specs.Balance.{is_flag}
 use Rattle.c_pre.specs.Parts.{first_or, end_of, open_behind, lines_in, EndsAt, KnowEnds}
 
@@ -73,8 +73,8 @@ opens-inside depth (n ∷ ns) es e step known = (leads-on (suc depth) (suc depth
 not-read : (inner reads : List Bool) → is_read (inner ++ false ∷ reads) ≡ false
 not-read inner reads = list_all-append (λ r. r) inner (false ∷ reads) ∙ and-false (is_read inner)
 
-past : (q : Progress → Result Progress Refusal) (reads : List Bool) (s : Progress) (ls : List (Line Place)) (x : Result Progress Refusal) → is_read reads ≡ false → and_then (cond (is_read reads) x (Ok s)) (λ new. ran q reads new ls) ≡ ran q reads s ls
-past q reads s ls x e = ap (λ b. and_then (cond b x (Ok s)) (λ new. ran q reads new ls)) e
+past : (q : Progress → Result Progress Refusal) (reads : List Bool) (s : Progress) (ls : List (Line Place)) (x : Result Progress Refusal) → is_read reads ≡ false → ((cond (is_read reads) x (Ok s)) >>= (λ new. ran q reads new ls)) ≡ ran q reads s ls
+past q reads s ls x e = ap (λ b. cond b x (Ok s) >>= λ new. ran q reads new ls) e
 
 step-text : (ts : _) (d : ℕ) → StepsTo d d (text ts)
 step-text ts d = λ q inner reads s ls h. (inner, h, past q (inner ++ false ∷ reads) s ls (taken s (text ts)) (not-read inner reads))
@@ -204,7 +204,7 @@ read-on q es rest left e reads then s new all is known p r l told =
       ap (λ ls. ran q then new (lines_in ls)) l
           ∙ same-then q then new e rest (last-end rest e known_so)
           ∙ ap (λ rs. ran q rs new (lines_in rest)) r
-          ∙ ap (λ x. and_then x (λ n. ran q (reads_then reads s (shown e.line)) n (lines_in rest))) (sym p)
+          ∙ ap (λ x. x >>= λ n. ran q (reads_then reads s (shown e.line)) n (lines_in rest)) (sym p)
           ∙ ap (ran q reads s) (sym (ap lines_in is ∙ lines_in-more rest e))
           ∙ told,
       subst KnowEnds (sym l) (known-then then e rest known_so),
@@ -213,7 +213,7 @@ read-on q es rest left e reads then s new all is known p r l told =
 pub stop-on : (q : Progress → Result Progress Refusal) (es rest : List FileLine) (e : FileLine) (reads : List Bool) (s : Progress) (f : Refusal) (all : Result Progress Refusal)
     → es ≡ rest ++ e ∷ [] → passed q reads s (shown e.line) ≡ Err f → ran q reads s (lines_in es) ≡ all → all ≡ Err f
 stop-on q es rest e reads s f all is p told =
-    sym told ∙ ap (ran q reads s) (ap lines_in is ∙ lines_in-more rest e) ∙ ap (λ x. and_then x (λ n. ran q (reads_then reads s (shown e.line)) n (lines_in rest))) p
+    sym told ∙ ap (ran q reads s) (ap lines_in is ∙ lines_in-more rest e) ∙ ap (λ x. x >>= λ n. ran q (reads_then reads s (shown e.line)) n (lines_in rest)) p
 
 -- ---- the lines that are kept
 

@@ -3,10 +3,10 @@ use Rattle.std.proofs.Common.{◌≡◌, ℕ, ◌≤◌, length, drop, Bool, tru
 use Rattle.std.specs.Borrow.{Bor}
 use Rattle.std.specs.List.{list_any}
 use Rattle.std.specs.Map.{lookup}
-use Rattle.c_mean.specs.declared.token.Token.{Token}
-use Rattle.c_mean.specs.SeenToken.{token_of}
-use Rattle.c_mean.specs.declared.preprocessed.Macro.{Macro}
-use Rattle.c_mean.specs.Preprocessing.{body_for, put_for, macro_of}
+use Rattle.c_text.specs.declared.token.Token.{Token}
+use Rattle.c_text.specs.SeenToken.{token_of}
+use Rattle.c_text.specs.declared.preprocessed.Macro.{Macro}
+use Rattle.c_text.specs.Preprocessing.{body_for, put_for, macro_of}
 use Rattle.c_pre.proofs.Seen.{flats_back}
 use Rattle.c_pre.specs.declared.line.Header.{Header as CodeHeader}
 use Rattle.c_pre.specs.Shown.{header_shown, flat, flats}

@@ -1,8 +1,8 @@
 -- Whole conditionals do not depend on which tokens are joined.
 use Rattle.std.proofs.Common.{◌≡◌, ℕ, zero, suc, Bool, true, false, List, [], ◌∷◌, map, refl, ap, ◌∙◌}
-use Rattle.c_mean.specs.declared.place.Place.{Place}
-use Rattle.c_mean.specs.Directive.{Line, text, standard, quoted, define, conditional, otherwise, endif, unbalanced, refused}
-use Rattle.c_mean.specs.Conditional.{is_ended, if_ended, balanced}
+use Rattle.c_text.specs.declared.place.Place.{Place}
+use Rattle.c_text.specs.Directive.{Line, text, standard, quoted, define, conditional, otherwise, endif, unbalanced, refused}
+use Rattle.c_text.specs.Conditional.{is_ended, if_ended, balanced}
 use Rattle.c_pre.specs.Shown.{unjoin, unjoined}
 
 is_ended-unjoined : (depth : ℕ) (ls : List (Line Place)) → is_ended depth (map unjoined ls) ≡ is_ended depth ls

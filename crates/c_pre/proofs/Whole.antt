@@ -6,9 +6,9 @@ use Rattle.std.proofs.Math.Bool.{and-true}
 use Rattle.std.proofs.lemmas.List.{reverse-append, map-append}
 use Rattle.std.proofs.lemmas.List.Folds.{list_all-append}
 use Rattle.std.proofs.lemmas.List.Sums.{sum_by-cons}
-use Rattle.c_mean.specs.declared.place.Place.{Place}
-use Rattle.c_mean.specs.Directive.{Line, text, standard, quoted, define, conditional, otherwise, endif, unbalanced, refused}
-use Rattle.c_mean.specs.Conditional.{is_ended, if_ended, balanced}
+use Rattle.c_text.specs.declared.place.Place.{Place}
+use Rattle.c_text.specs.Directive.{Line, text, standard, quoted, define, conditional, otherwise, endif, unbalanced, refused}
+use Rattle.c_text.specs.Conditional.{is_ended, if_ended, balanced}
 use Rattle.c_pre.specs.declared.line.Line.{Line as CodeLine}
 use Rattle.c_pre.specs.Shown.{shown}
 use Rattle.c_pre.specs.Balance.{open_ends, endings, is_flag, balanced_line, elses_behind, endings_behind}

@@ -1,8 +1,8 @@
 -- Whole conditionals in one pass over the lines.
 use Rattle.std.specs.Prelude.{ℕ, Bool, true, false, ◌+◌, ◌-◌, List, [], ◌∷◌, drop, Option, Some, None, slice_get}
-use Rattle.c_mean.specs.declared.place.Place.{Place}
-use Rattle.c_mean.specs.Directive.{Line, conditional, otherwise, endif}
-use Rattle.c_mean.specs.Conditional.{is_ended, if_ended}
+use Rattle.c_text.specs.declared.place.Place.{Place}
+use Rattle.c_text.specs.Directive.{Line, conditional, otherwise, endif}
+use Rattle.c_text.specs.Conditional.{is_ended, if_ended}
 
 -- how many `#endif` stand in the lines that end no conditional in them
 abbrev pub open_ends : List (Line Place) → ℕ

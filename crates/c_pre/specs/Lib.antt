@@ -1,3 +1,4 @@
+-- What the functions inside promise each other.
 pub mod Shown
 pub mod Balance
 pub mod Run

@@ -1,8 +1,8 @@
 -- Where reading goes on behind a part that is skipped.
 use Rattle.std.specs.Prelude.{◌≡◌, ℕ, ◌+◌, ◌<◌, ◌≤◌, Bool, false, List, [], ◌∷◌, drop, take, map, reverse, length, slice_index_or, Result}
-use Rattle.c_mean.specs.declared.place.Place.{Place}
-use Rattle.c_mean.specs.Refusal.{Refusal}
-use Rattle.c_mean.specs.Directive.{Line, conditional, otherwise, endif, unbalanced}
+use Rattle.c_text.specs.declared.place.Place.{Place}
+use Rattle.c_text.specs.Refusal.{Refusal}
+use Rattle.c_text.specs.Directive.{Line, conditional, otherwise, endif, unbalanced}
 use Rattle.c_pre.specs.declared.parts.FileLine.{FileLine}
 use Rattle.c_pre.specs.Shown.{shown}
 use Rattle.c_pre.specs.Run.{Progress, ran}

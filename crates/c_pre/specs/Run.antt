@@ -1,22 +1,23 @@
 -- What is left behind lines, line by line: a plain program, whose outcome is that of the definition.
 use Rattle.std.specs.Prelude.{ℕ, Bool, true, false, not, if◌then◌else◌, List, [], ◌∷◌, ◌++◌, drop, map, bytes_eq, Option, Some, None, is_some, Result, Ok, Err}
 use Rattle.std.specs.List.{list_any}
-use Rattle.c_mean.specs.declared.place.Place.{Place}
-use Rattle.c_mean.specs.declared.token.Token.{Token}
-use Rattle.c_mean.specs.declared.token.TokenKind.{TokenKind}
-use Rattle.c_mean.specs.declared.refusal.CKind.TheVariants.{Redefined, Unbalanced}
-use Rattle.c_mean.specs.Refusal.{Refusal}
-use Rattle.c_mean.specs.SeenToken.{Seen, token_of}
-use Rattle.c_mean.specs.StandardHeader.{Header, stdbool_h, stddef_h, stdint_h, string_h, kind_in}
-use Rattle.c_mean.specs.Directive.{Line, text, standard, quoted, define, conditional, otherwise, endif, unbalanced, refused, word_of}
-use Rattle.c_mean.specs.MacroDefinition.{or_else, same_bool, same_body}
-use Rattle.c_mean.specs.Conditional.{is_read}
-use Rattle.c_mean.specs.Preprocessing.{Named, replaced_by}
+use Rattle.c_text.specs.declared.place.Place.{Place}
+use Rattle.c_text.specs.declared.token.Token.{Token}
+use Rattle.c_text.specs.declared.token.TokenKind.{TokenKind}
+use Rattle.c_text.specs.declared.refusal.CKind.TheVariants.{Redefined, Unbalanced}
+use Rattle.c_text.specs.Refusal.{Refusal}
+use Rattle.c_text.specs.SeenToken.{Seen, token_of}
+use Rattle.c_text.specs.StandardHeader.{Header, stdbool_h, stddef_h, stdint_h, string_h, kind_in}
+use Rattle.c_text.specs.Directive.{Line, text, standard, quoted, define, conditional, otherwise, endif, unbalanced, refused, word_of}
+use Rattle.cg_out.specs.Words.{◌>>=◌, or_else, same_bool}
+use Rattle.c_text.specs.MacroDefinition.{same_body}
+use Rattle.c_text.specs.Conditional.{is_read}
+use Rattle.c_text.specs.Preprocessing.{NamedBody, replaced_by}
 
 -- what is left so far: the tokens, the macros, and the standard headers that were included, each once
 pub record Progress : Type 0 where
   pub tokens : List Token
-  pub macros : List (Named Place)
+  pub macros : List (NamedBody Place)
   pub headers : List Header
 
 abbrev pub nothing_left : Progress
@@ -24,7 +25,7 @@ nothing_left = record { tokens = []; macros = []; headers = [] }
 
 -- ---- macros and headers
 
-abbrev pub look : List ℕ → List (Named Place) → Option (List (Seen Place))
+abbrev pub look : List ℕ → List (NamedBody Place) → Option (List (Seen Place))
 look name [] = None
 look name (m ∷ ms) = if bytes_eq name m.0 then Some m.1 else look name ms
 
@@ -44,11 +45,11 @@ with_header hs h = if list_any (λ g. same_header g h) hs then hs else hs ++ h �
 
 -- ---- what is written for tokens
 
-abbrev pub written_word : List (Named Place) → List Header → Seen Place → Option (List ℕ) → List (Seen Place)
+abbrev pub written_word : List (NamedBody Place) → List Header → Seen Place → Option (List ℕ) → List (Seen Place)
 written_word ms hs t None = t ∷ []
 written_word ms hs t (Some name) = replaced_by t (look name ms) (kind_among hs name)
 
-abbrev pub written : List (Named Place) → List Header → List (Seen Place) → List Token
+abbrev pub written : List (NamedBody Place) → List Header → List (Seen Place) → List Token
 written ms hs [] = []
 written ms hs (t ∷ ts) = map token_of (written_word ms hs t (word_of t.kind)) ++ written ms hs ts
 
@@ -89,14 +90,10 @@ reads_then reads s (otherwise p) = turned reads
 reads_then reads s (endif p) = drop 1 reads
 reads_then reads s l = reads
 
-abbrev pub and_then : {X Y : Type 0} → Result X Refusal → (X → Result Y Refusal) → Result Y Refusal
-and_then (Ok x) f = f x
-and_then (Err e) f = Err e
-
 -- behind lines of a file
 abbrev pub ran : (Progress → Result Progress Refusal) → List Bool → Progress → List (Line Place) → Result Progress Refusal
 ran q reads s [] = Ok s
-ran q reads s (l ∷ ls) = and_then (passed q reads s l) (λ new. ran q (reads_then reads s l) new ls)
+ran q reads s (l ∷ ls) = passed q reads s l >>= λ new. ran q (reads_then reads s l) new ls
 
 abbrev pub ran_header : List (Line Place) → Progress → Result Progress Refusal
 ran_header ls s = ran (λ new. Ok new) [] s ls

@@ -1,11 +1,11 @@
 -- What the code's lines show: the definition's lines, in which no token is joined to the one before.
 use Rattle.std.specs.Prelude.{ℕ, Bool, true, false, List, [], ◌∷◌, map, Option, None}
-use Rattle.c_mean.specs.declared.place.Place.{Place}
-use Rattle.c_mean.specs.declared.token.Token.{Token}
-use Rattle.c_mean.specs.declared.token.TokenKind.{TokenKind}
-use Rattle.c_mean.specs.SeenToken.{Seen, seen_behind}
-use Rattle.c_mean.specs.StandardHeader.{Header, stdbool_h, stddef_h, stdint_h, string_h}
-use Rattle.c_mean.specs.Directive.{Line, text, standard, quoted, define, conditional, otherwise, endif, unbalanced, refused, Keyword, k_include, k_define, k_ifdef, k_ifndef, k_else, k_endif, line_of}
+use Rattle.c_text.specs.declared.place.Place.{Place}
+use Rattle.c_text.specs.declared.token.Token.{Token}
+use Rattle.c_text.specs.declared.token.TokenKind.{TokenKind}
+use Rattle.c_text.specs.SeenToken.{Seen, seen_behind}
+use Rattle.c_text.specs.StandardHeader.{Header, stdbool_h, stddef_h, stdint_h, string_h}
+use Rattle.c_text.specs.Directive.{Line, text, standard, quoted, define, conditional, otherwise, endif, unbalanced, refused, DirectiveWord, k_include, k_define, k_ifdef, k_ifndef, k_else, k_endif, line_of}
 use Rattle.c_pre.specs.declared.line.Header.{Header as CodeHeader}
 use Rattle.c_pre.specs.declared.line.Header.TheVariants.{StdBool, StdDef, StdInt, StringH}
 use Rattle.c_pre.specs.declared.line.Line.{Line as CodeLine}
@@ -19,7 +19,7 @@ header_shown StdDef = stddef_h
 header_shown StdInt = stdint_h
 header_shown StringH = string_h
 
-abbrev pub keyword_shown : CodeKeyword → Keyword
+abbrev pub keyword_shown : CodeKeyword → DirectiveWord
 keyword_shown word.Include = k_include
 keyword_shown word.Define = k_define
 keyword_shown word.IfDef = k_ifdef

@@ -1,12 +1,12 @@
 //! Which conditional lines belong to whole conditionals (6.10.1).
 ghost use Rattle.std.specs.Prelude.{◌≡◌, [], map, slice_get, IfOk, OnOk};
-ghost use Rattle.c_mean.specs.Conditional as mean;
+ghost use Rattle.c_text.specs.Conditional as mean;
 ghost use Rattle.c_pre.specs.Shown.{shown};
 ghost use Rattle.c_pre.specs.Balance as spec;
 
 use crate::flags::Flags;
 use crate::line::Line;
-use c_mean::Place;
+use c_text::Place;
 use cg_out::Memory;
 use std::alloc::Global;
 

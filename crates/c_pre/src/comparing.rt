@@ -1,9 +1,9 @@
 //! Equal bodies of macros (6.10.3p1): the tokens are of equal kinds and values.
 ghost use Rattle.std.specs.Prelude.{◌≡◌};
-ghost use Rattle.c_mean.specs.MacroDefinition as mean;
+ghost use Rattle.c_text.specs.MacroDefinition as mean;
 ghost use Rattle.c_pre.specs.Shown.{flats};
 
-use c_mean::{Constant, IntType, Spelled, Token, TokenKind};
+use c_text::{Constant, IntType, Spelled, Token, TokenKind};
 
 pub fn same_body(first: &[Token], second: &[Token]) -> bool
     ensures { result ≡ mean.same_body (flats first.now) (flats second.now) }

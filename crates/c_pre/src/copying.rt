@@ -1,7 +1,7 @@
 //! Copies of tokens.
 ghost use Rattle.std.specs.Prelude.{◌≡◌, IfOk};
 
-use c_mean::{Token, TokenKind};
+use c_text::{Token, TokenKind};
 use cg_out::{List, Memory, Text};
 use std::alloc::Global;
 

@@ -6,7 +6,7 @@ ghost use Rattle.c_pre.specs.Shown.{shown, told, cut};
 
 use crate::directive::line_of;
 use crate::line::Line;
-use c_mean::Token;
+use c_text::Token;
 use cg_out::Memory;
 use std::alloc::Global;
 

@@ -2,13 +2,13 @@
 ghost use Rattle.std.specs.Prelude.{◌≡◌, ℕ, Option, Some, is_some};
 ghost use Rattle.std.specs.List.{list_any};
 ghost use Rattle.std.specs.Option.{option_map, option_copied};
-ghost use Rattle.c_mean.specs.SeenToken.{seen_behind};
-ghost use Rattle.c_mean.specs.Directive as mean;
+ghost use Rattle.c_text.specs.SeenToken.{seen_behind};
+ghost use Rattle.c_text.specs.Directive as mean;
 ghost use Rattle.c_pre.specs.Shown.{keyword_shown, kinds, unjoined, shown, told};
 
 use crate::line::Line;
 use crate::standard::{header_of, is_mark, is_word};
-use c_mean::{CKind, Place, Token, TokenKind};
+use c_text::{CKind, Place, Token, TokenKind};
 
 /// The word behind the `#`.
 #[derive(Clone, Copy)]
@@ -21,9 +21,9 @@ enum Keyword {
     EndIf,
 }
 
-#[tactic(auto, unfolding(c_mean::specs::Directive::keyword_of))]
+#[tactic(auto, unfolding(c_text::specs::Directive::directive_word))]
 fn keyword_of(kind: &TokenKind) -> Option<Keyword>
-    ensures { option_map keyword_shown result ≡ mean.keyword_of kind.now }
+    ensures { option_map keyword_shown result ≡ mean.directive_word kind.now }
 {
     if is_word(kind, b"include") {
         Some(Keyword::Include)
@@ -89,7 +89,7 @@ fn bad_directive<'a>(hash: Place) -> Line<'a>
 
 /// The line, where no tokens follow.
 fn alone<'a>(line: Line<'a>, hash: Place, tokens: &[Token]) -> Line<'a>
-    ensures { (end : Option ℕ) → shown result ≡ mean.alone hash (shown line.entry) (seen_behind end tokens.now) }
+    ensures { (end : Option ℕ) → shown result ≡ mean.none_follow hash (shown line.entry) (seen_behind end tokens.now) }
 {
     match tokens {
         [] => line,
@@ -155,9 +155,7 @@ fn include_quoted<'a>(beside: Option<&[u8]>, hash: Place, name: &[u8], rest: &[T
 {
     match rest {
         [] => {
-            if name.is_empty() {
-                bad_directive(hash)
-            } else if is_beside(beside, name) {
+            if !name.is_empty() && is_beside(beside, name) {
                 Line::Quoted
             } else {
                 refused(hash, CKind::UnknownHeader)

@@ -1,9 +1,9 @@
 //! From the tokens of both files to what is left of them.
 ghost use Rattle.std.specs.Prelude.{◌≡◌, [], map, IfOk};
 ghost use Rattle.std.specs.Option.{option_copied};
-ghost use Rattle.c_mean.specs.Refusal.{Gives};
-ghost use Rattle.c_mean.specs.Preprocessing.{preprocessed};
-ghost use Rattle.c_mean.specs.Conditional as mean;
+ghost use Rattle.c_text.specs.Refusal.{Gives};
+ghost use Rattle.c_text.specs.Preprocessing.{preprocessed};
+ghost use Rattle.c_text.specs.Conditional as mean;
 ghost use Rattle.c_pre.specs.Shown.{told, cut};
 ghost use Rattle.c_pre.specs.Parts.{lines_in, KnowEnds};
 
@@ -11,7 +11,7 @@ use crate::balancing::balanced;
 use crate::cutting::lines_of;
 use crate::expansion::Expansion;
 use crate::parts::{FileLine, file_lines};
-use c_mean::{CFault, Preprocessed, Token};
+use c_text::{CFault, Preprocessed, Token};
 use cg_out::Memory;
 use std::alloc::Global;
 

@@ -1,7 +1,7 @@
 //! What is left behind the lines that were read.
 ghost use Rattle.std.specs.Prelude.{◌≡◌, ◌∷◌, ◌++◌, [], map, Some, None, Ok, OnOk};
 ghost use Rattle.std.specs.List.{list_any};
-ghost use Rattle.c_mean.specs.Refusal.{Gives};
+ghost use Rattle.c_text.specs.Refusal.{Gives};
 ghost use Rattle.c_pre.specs.Shown.{flats, shown, header_shown};
 ghost use Rattle.c_pre.specs.Run as run;
 ghost use Rattle.c_pre.specs.Parts.{lines_in, KnowEnds};
@@ -13,7 +13,7 @@ use crate::line::{Header, Line};
 use crate::macros::Macros;
 use crate::parts::{FileLine, lines_behind};
 use crate::replacing::write;
-use c_mean::{CFault, CKind, Place, Token};
+use c_text::{CFault, CKind, Place, Token};
 use cg_out::{List, Memory};
 use std::alloc::Global;
 

@@ -26,6 +26,3 @@ mod replacing;
 mod standard;
 
 pub use expanding::expand;
-
-#[cfg(test)]
-mod tests;

@@ -1,5 +1,5 @@
 //! The lines of a file, as slices of its tokens.
-use c_mean::{CKind, Place, Token};
+use c_text::{CKind, Place, Token};
 
 /// The standard headers that may be included.
 #[derive(Clone, Copy, Debug, PartialEq, Eq)]

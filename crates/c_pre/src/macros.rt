@@ -1,12 +1,12 @@
 //! The macros behind the lines that were read (6.10.3).
 ghost use Rattle.std.specs.Prelude.{◌≡◌, ◌∷◌, ◌++◌, [], map, None, IfOk, OnOk};
 ghost use Rattle.std.specs.Option.{option_map};
-ghost use Rattle.c_mean.specs.Preprocessing.{macro_of};
+ghost use Rattle.c_text.specs.Preprocessing.{macro_of};
 ghost use Rattle.c_pre.specs.Shown.{flats};
 ghost use Rattle.c_pre.specs.Run.{look};
 
 use crate::copying::copy_of_all;
-use c_mean::{Macro, Token};
+use c_text::{Macro, Token};
 use cg_out::{List, Memory, Text};
 use indexmap::IndexMap;
 use std::alloc::Global;
@@ -20,11 +20,11 @@ pub struct Macros<'a> {
 
 impl<'a> Model for Macros<'a> {
     ghost use Rattle.std.specs.Prelude.{List, map};
-    ghost use Rattle.c_mean.specs.declared.place.Place.{Place};
-    ghost use Rattle.c_mean.specs.Preprocessing.{Named};
+    ghost use Rattle.c_text.specs.declared.place.Place.{Place};
+    ghost use Rattle.c_text.specs.Preprocessing.{NamedBody};
     ghost use Rattle.c_pre.specs.Entries.{named};
 
-    ghost Value = { List (Named Place) };
+    ghost Value = { List (NamedBody Place) };
 
     ghost view = { λ m. map named m.table.entries };
 }

@@ -1,8 +1,8 @@
 //! Names that are replaced (6.10.3.1).
 ghost use Rattle.std.specs.Prelude.{◌≡◌, ◌++◌, map, Some, OnOk};
-ghost use Rattle.c_mean.specs.SeenToken.{token_of};
-ghost use Rattle.c_mean.specs.Directive.{word_of};
-ghost use Rattle.c_mean.specs.Preprocessing.{body_for};
+ghost use Rattle.c_text.specs.SeenToken.{token_of};
+ghost use Rattle.c_text.specs.Directive.{word_of};
+ghost use Rattle.c_text.specs.Preprocessing.{body_for};
 ghost use Rattle.c_pre.specs.Shown.{flat, flats, header_shown};
 ghost use Rattle.c_pre.specs.Run as run;
 
@@ -10,7 +10,7 @@ use crate::copying::{copy_of, copy_of_kind};
 use crate::line::Header;
 use crate::macros::Macros;
 use crate::standard::kind_among;
-use c_mean::{Token, TokenKind};
+use c_text::{Token, TokenKind};
 use cg_out::{List, Memory};
 use std::alloc::Global;
 

@@ -1,12 +1,13 @@
 //! The standard headers: how they are named, and what their names become.
 ghost use Rattle.std.specs.Prelude.{◌≡◌, IfOk, map};
 ghost use Rattle.std.specs.Option.{option_map};
-ghost use Rattle.c_mean.specs.StandardHeader as mean;
+ghost use Rattle.c_text.specs.StandardHeader as mean;
+ghost use Rattle.cg_out.specs.Words as words;
 ghost use Rattle.c_pre.specs.Shown.{header_shown, kinds};
 ghost use Rattle.c_pre.specs.Run as run;
 
 use crate::line::Header;
-use c_mean::{Constant, Spelled, Token, TokenKind};
+use c_text::{Constant, Spelled, Token, TokenKind};
 use cg_out::{Memory, Text};
 use std::alloc::Global;
 
@@ -41,7 +42,7 @@ fn is_header(tokens: &[Token], word: &[u8]) -> bool
 }
 
 /// The header with the name that these tokens spell.
-#[tactic(auto, unfolding(c_mean::specs::StandardHeader::header_of))]
+#[tactic(auto, unfolding(c_text::specs::StandardHeader::header_of))]
 pub fn header_of(tokens: &[Token]) -> Option<Header>
     ensures { option_map header_shown result ≡ mean.header_of (kinds tokens.now) }
 {
@@ -74,7 +75,7 @@ pub fn kind_among(
     Ok(None)
 }
 
-#[tactic(auto, unfolding(c_mean::specs::StandardHeader::kind_in))]
+#[tactic(auto, unfolding(c_text::specs::StandardHeader::kind_in))]
 fn kind_in(alloc: Global, header: Header, name: &[u8]) -> Result<Option<TokenKind>, Memory>
     ensures { IfOk result (λ k. k ≡ mean.kind_in (header_shown header) name.now) }
 {
@@ -87,7 +88,7 @@ fn kind_in(alloc: Global, header: Header, name: &[u8]) -> Result<Option<TokenKin
 }
 
 fn kind_in_stdbool(alloc: Global, name: &[u8]) -> Result<Option<TokenKind>, Memory>
-    ensures { IfOk result (λ k. k ≡ mean.look_up name.now (mean.names_of mean.stdbool_h)) }
+    ensures { IfOk result (λ k. k ≡ words.look_up name.now (mean.names_of mean.stdbool_h)) }
 {
     if b"bool".as_slice() == name {
         Ok(Some(TokenKind::Word(Text::copy_of(alloc, b"_Bool")?)))
@@ -112,7 +113,7 @@ fn truth(value: u64) -> TokenKind
 }
 
 fn kind_in_stddef(name: &[u8]) -> Option<TokenKind>
-    ensures { result ≡ mean.look_up name.now (mean.names_of mean.stddef_h) }
+    ensures { result ≡ words.look_up name.now (mean.names_of mean.stddef_h) }
 {
     if b"size_t".as_slice() == name {
         Some(TokenKind::TypeName(Spelled::Size))
@@ -124,7 +125,7 @@ fn kind_in_stddef(name: &[u8]) -> Option<TokenKind>
 }
 
 fn kind_in_stdint(name: &[u8]) -> Option<TokenKind>
-    ensures { result ≡ mean.look_up name.now (mean.names_of mean.stdint_h) }
+    ensures { result ≡ words.look_up name.now (mean.names_of mean.stdint_h) }
 {
     if b"int8_t".as_slice() == name {
         Some(exact(8, true))
@@ -154,7 +155,7 @@ fn exact(width: u32, signed: bool) -> TokenKind
 }
 
 fn kind_in_string(name: &[u8]) -> Option<TokenKind>
-    ensures { result ≡ mean.look_up name.now (mean.names_of mean.string_h) }
+    ensures { result ≡ words.look_up name.now (mean.names_of mean.string_h) }
 {
     if b"size_t".as_slice() == name {
         Some(TokenKind::TypeName(Spelled::Size))

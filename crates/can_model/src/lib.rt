@@ -12,6 +12,3 @@ mod refusal;
 
 pub use database::{Database, Message};
 pub use refusal::{TEXT_LIMIT, TextFault, TextKind};
-
-#[cfg(test)]
-mod tests;

@@ -70,6 +70,22 @@ impl TextKind {
             TextKind::NotYet => "NotYet",
         }
     }
+
+    /// What a person is told of it, in one sentence.
+    pub fn message(self) -> &'static str {
+        match self {
+            TextKind::BadByte => "this byte may not stand here",
+            TextKind::OpenString => "this string has no end",
+            TextKind::BadNumber => "this number does not fit here",
+            TextKind::Unexpected => "no statement that may stand here goes on like this",
+            TextKind::TooLarge => "this text is longer than a text of its kind may be",
+            TextKind::LateSignal => "this signal stands before any message",
+            TextKind::FormatVersion => "the first line does not name the format version 6.0",
+            TextKind::UnknownName => "this signal or enumeration is not defined",
+            TextKind::SignalType => "no type has this name",
+            TextKind::NotYet => "this form is not read yet",
+        }
+    }
 }
 
 /// Why a reader gives no database.

@@ -3,6 +3,7 @@ ghost use Rattle.std.specs.Prelude.{◌≡◌, ◌+◌, ◌<◌, ◌≤◌, ◌+
 ghost use Rattle.std.specs.Io.{StartsWith};
 
 use crate::sink::write_all;
+use crate::telling::told;
 use cg_out::{Failed, Files, ReadFault};
 use std::io::{ErrorKind, Read};
 use std::{fs, io, rt};
@@ -27,7 +28,7 @@ impl<'a, R: rt::Files> RealFiles<'a, R> {
 const PIECE: usize = 4096;
 
 /// Appends the next `count` bytes, or all where fewer are left.
-fn read_up_to<R: Read>(from: &mut R, count: usize, into: &mut Vec<u8>) -> io::Result<()>
+pub fn read_up_to<R: Read>(from: &mut R, count: usize, into: &mut Vec<u8>) -> io::Result<()>
     ensures front { StartsWith into.new.items into.old.items }
     ensures bound { length into.new.items ≤ length into.old.items + count }
     ensures bytes { OnOk result (IfSome (R.remaining from.old) (λ xs. into.new.items ≡ into.old.items ++ take count xs)) }
@@ -49,8 +50,25 @@ fn read_up_to<R: Read>(from: &mut R, count: usize, into: &mut Vec<u8>) -> io::Re
     Err(ErrorKind::Other.into())
 }
 
-/// Appends the first `limit + 1` bytes of the file, or all of a shorter one.
-fn read_file<R: rt::Files>(rt: &R, name: &[u8], limit: usize, into: &mut Vec<u8>) -> io::Result<()>
+/// Appends the first `limit + 1` bytes of the file, or all of a shorter one. A failure is told, but
+/// for a want of memory.
+fn read_file<R: rt::Files + Eprint>(
+    rt: &R,
+    name: &[u8],
+    limit: usize,
+    into: &mut Vec<u8>,
+) -> io::Result<()>
+    requires { limit < usize.MAX }
+    ensures front { StartsWith into.new.items into.old.items }
+    ensures bound { length into.new.items ≤ length into.old.items + limit + 1 }
+{
+    match read_front(rt, name, limit, into) {
+        Err(e) if e.kind() == ErrorKind::OutOfMemory => Err(e),
+        outcome => told(rt, name, "cannot be read", outcome),
+    }
+}
+
+fn read_front<R: rt::Files>(rt: &R, name: &[u8], limit: usize, into: &mut Vec<u8>) -> io::Result<()>
     requires { limit < usize.MAX }
     ensures front { StartsWith into.new.items into.old.items }
     ensures bound { length into.new.items ≤ length into.old.items + limit + 1 }
@@ -62,7 +80,12 @@ fn read_file<R: rt::Files>(rt: &R, name: &[u8], limit: usize, into: &mut Vec<u8>
     read_up_to(&mut file, limit + 1, into)
 }
 
-fn write_file<R: rt::Files>(rt: &R, name: &[u8], bytes: &[u8]) -> io::Result<()> {
+/// Makes or empties the file, and writes all bytes. A failure is told.
+fn write_file<R: rt::Files + Eprint>(rt: &R, name: &[u8], bytes: &[u8]) -> io::Result<()> {
+    told(rt, name, "cannot be written", write_whole(rt, name, bytes))
+}
+
+fn write_whole<R: rt::Files>(rt: &R, name: &[u8], bytes: &[u8]) -> io::Result<()> {
     let Ok(path) = str::from_utf8(name) else {
         return Err(ErrorKind::InvalidInput.into());
     };
@@ -70,14 +93,10 @@ fn write_file<R: rt::Files>(rt: &R, name: &[u8], bytes: &[u8]) -> io::Result<()>
     write_all(&mut file, bytes)
 }
 
-impl<R: rt::Files> Files for RealFiles<'_, R> {
+impl<R: rt::Files + Eprint> Files for RealFiles<'_, R> {
     ghost use Rattle.std.specs.declared.option.Option.TheVariants.{None};
 
-    ghost content = { λ _. None };
-
-    ghost faults = { λ f. f.faults };
-
-    ghost calls = { λ _. None };
+    ghost seen = { λ f. record { content = None; faults = f.faults; calls = None } };
 
     fn read(&mut self, name: &[u8], limit: usize, into: &mut Vec<u8>) -> Result<(), ReadFault> {
         let before = into.len();

@@ -2,11 +2,13 @@
 ghost use Rattle.std.specs.Prelude.{◌≡◌, OnOk};
 ghost use Rattle.std.specs.Io.KnownBytes.{Appends};
 
+use crate::telling::told;
 use cg_out::{Failed, Sink};
 use std::io;
 use std::io::{ErrorKind, Write};
 
-/// The standard output. Every error is counted; what was written is not told.
+/// The standard output, and the standard error for words to a person. Every error of the former is
+/// counted; what was written is not told.
 #[derive(Drop)]
 pub struct RealSink<'a, R: Print> {
     rt: &'a R,
@@ -39,24 +41,40 @@ pub fn write_all<W: Write>(to: &mut W, bytes: &[u8]) -> io::Result<()>
     Err(ErrorKind::Other.into())
 }
 
-impl<R: Print> Sink for RealSink<'_, R> {
+/// Writes all bytes to the standard output. A failure is told.
+fn write_report<R: Print + Eprint>(rt: &R, bytes: &[u8]) -> io::Result<()> {
+    let mut to = io::writer(rt);
+    told(
+        rt,
+        b"the report",
+        "cannot be written",
+        write_all(&mut to, bytes),
+    )
+}
+
+impl<R: Print + Eprint> Sink for RealSink<'_, R> {
     ghost use Rattle.std.specs.declared.option.Option.TheVariants.{None};
 
-    ghost written = { λ _. None };
-
-    ghost faults = { λ s. s.faults };
-
-    ghost calls = { λ _. None };
+    ghost seen = { λ s. record { written = None; faults = s.faults; calls = None } };
 
     fn write(&mut self, bytes: &[u8]) -> Result<(), Failed> {
-        let mut to = io::writer(self.rt);
-        match write_all(&mut to, bytes) {
+        match write_report(self.rt, bytes) {
             Ok(()) => Ok(()),
             Err(_) => {
                 self.faults = self.faults.saturating_add(1);
                 Err(Failed)
             }
         }
+    }
+
+    fn explain(&mut self, file: &[u8], line: u32, column: Option<u32>, message: &str) {
+        let file = str::from_utf8(file).unwrap_or("a file");
+        // The report and the exit status say as much, so an error here changes nothing.
+        let _ = match (line, column) {
+            (0, _) => eprintln!(self.rt; "{file}: error: {message}"),
+            (_, None) => eprintln!(self.rt; "{file}:{line}: error: {message}"),
+            (_, Some(column)) => eprintln!(self.rt; "{file}:{line}:{column}: error: {message}"),
+        };
     }
 }
 

@@ -1,6 +1,7 @@
 -- What a sink in memory holds, and what its calls leave.
 use Rattle.std.specs.Prelude.{ℕ, if◌then◌else◌, List, ◌++◌, length}
-use Rattle.std.specs.declared.option.Option.{Option}
+use Rattle.std.specs.declared.option.Option.TheVariants.{Some}
+use Rattle.cg_out.specs.Outside.{SinkSeen}
 use Rattle.cg_out.specs.InMemory.{Space, History, history_of, fits, next_keep, front_of, told_below}
 use Rattle.cg_out.specs.declared.memory_sink.MemorySink.{MemorySink}
 
@@ -13,11 +14,9 @@ sink_space s = record { bytes = s.room; writes = s.places }
 abbrev pub sink_history : MemorySink → History
 sink_history s = history_of s.log
 
-abbrev pub sink_faults : MemorySink → ℕ
-sink_faults s = s.log.faults
-
-abbrev pub sink_calls : MemorySink → Option ℕ
-sink_calls s = told_below s.log.calls
+-- what was written is told, and how many calls there were up to the last value of a counter
+abbrev pub sink_seen : MemorySink → SinkSeen
+sink_seen s = record { written = Some (sink_bytes s); faults = s.log.faults; calls = told_below s.log.calls }
 
 -- the bytes after a write, which changes nothing where it does not fit
 abbrev pub bytes_after : List ℕ → Space → History → List ℕ → List ℕ

@@ -13,6 +13,18 @@ use Rattle.cg_out.specs.declared.fault.ReadFault.TheVariants.{Absent, Failed}
 abbrev pub Folder : Type 0
 Folder = FinMap (slice_cmp nat_cmp) (List ℕ)
 
+-- what files hold, where it is told; how often the outside failed; how often it was called, where that is told
+pub record FilesSeen : Type 0 where
+  pub content : Option Folder
+  pub faults : ℕ
+  pub calls : Option ℕ
+
+-- all bytes that were written to a sink, where they are told; and the same counts
+pub record SinkSeen : Type 0 where
+  pub written : Option (List ℕ)
+  pub faults : ℕ
+  pub calls : Option ℕ
+
 -- a count of faults rose in a call, or stands at the last value of a counter
 abbrev pub Rose : ℕ → ℕ → Type 0
 Rose before now = (before < now) ⊎ (now ≡ 2 ^ 64 - 1)

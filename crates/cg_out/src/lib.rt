@@ -26,6 +26,3 @@ pub use memory_files::{Entry, MemoryFiles};
 pub use memory_sink::MemorySink;
 pub use outside::{Files, Sink};
 pub use text::Text;
-
-#[cfg(test)]
-mod tests;

@@ -87,25 +87,20 @@ fn filled(alloc: Global, entries: &[Entry], room: usize) -> Result<Shelf, Memory
 }
 
 impl Files for MemoryFiles {
-    ghost use Rattle.std.specs.declared.option.Option.TheVariants.{Some};
     ghost use Rattle.std.specs.FinMap.{get, insert};
     ghost use Rattle.cg_out.specs.Outside.{HasCause, CountsCall, Reads, HasReadCause, IsTornWrite, IfTold};
     ghost use Rattle.cg_out.specs.InMemory.{next_keep, after_call, after_write, succeeds};
-    ghost use Rattle.cg_out.specs.MemoryFiles.{files_content, files_space, files_history, files_faults, files_calls, taken_by, content_after};
+    ghost use Rattle.cg_out.specs.MemoryFiles.{files_content, files_space, files_history, files_seen, taken_by, content_after};
 
-    ghost content = { λ m. Some (files_content m) };
-
-    ghost faults = { files_faults };
-
-    ghost calls = { files_calls };
+    ghost seen = { files_seen };
 
     fn read(&mut self, name: &[u8], limit: usize, into: &mut Vec<u8>) -> Result<(), ReadFault>
         requires { limit < usize.MAX }
-        ensures ok { OnOk result (Reads (Some (files_content self.old)) name.now limit into.old.items into.new.items) }
+        ensures ok { OnOk result (Reads (files_seen self.old).content name.now limit into.old.items into.new.items) }
         ensures err { OnErr result (into.new.items ≡ into.old.items) }
-        ensures content { files_content self.new ≡ files_content self.old }
-        ensures cause { HasReadCause (Some (files_content self.old)) name.now (files_faults self.old) (files_faults self.new) result }
-        ensures calls { CountsCall (files_calls self.old) (files_calls self.new) }
+        ensures content { (files_seen self.new).content ≡ (files_seen self.old).content }
+        ensures cause { HasReadCause (files_seen self.old).content name.now (files_seen self.old).faults (files_seen self.new).faults result }
+        ensures calls { CountsCall (files_seen self.old).calls (files_seen self.new).calls }
 
         // A call that is to fail fails, and no other one; a name that is lacking is absent.
         ensures failed { IsErrOf result ReadFault.Failed ↔ IsSome (next_keep (files_history self.old)) }
@@ -127,10 +122,10 @@ impl Files for MemoryFiles {
     }
 
     fn write(&mut self, name: &[u8], bytes: &[u8]) -> Result<(), Failed>
-        ensures ok { OnOk result (IfTold (Some (files_content self.old)) (Some (files_content self.new)) (λ a b. b ≡ insert a name.now bytes.now)) }
-        ensures err { OnErr result (IfTold (Some (files_content self.old)) (Some (files_content self.new)) (λ a b. IsTornWrite a b name.now bytes.now)) }
-        ensures cause { HasCause (files_faults self.old) (files_faults self.new) result }
-        ensures calls { CountsCall (files_calls self.old) (files_calls self.new) }
+        ensures ok { OnOk result (IfTold (files_seen self.old).content (files_seen self.new).content (λ a b. b ≡ insert a name.now bytes.now)) }
+        ensures err { OnErr result (IfTold (files_seen self.old).content (files_seen self.new).content (λ a b. IsTornWrite a b name.now bytes.now)) }
+        ensures cause { HasCause (files_seen self.old).faults (files_seen self.new).faults result }
+        ensures calls { CountsCall (files_seen self.old).calls (files_seen self.new).calls }
 
         // A write that fits takes its room, whether its call fails or not, and no other one changes anything.
         ensures success { is_ok result ≡ succeeds (files_space self.old) (taken_by name.now bytes.now) (files_history self.old) }

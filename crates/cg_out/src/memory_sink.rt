@@ -43,23 +43,18 @@ impl MemorySink {
 }
 
 impl Sink for MemorySink {
-    ghost use Rattle.std.specs.declared.option.Option.TheVariants.{Some};
     ghost use Rattle.std.specs.Prelude.{List, ℕ};
     ghost use Rattle.cg_out.specs.Outside.{HasCause, CountsCall, IsFront, IfTold};
     ghost use Rattle.cg_out.specs.InMemory.{after_call, after_write, succeeds};
-    ghost use Rattle.cg_out.specs.MemorySink.{sink_bytes, sink_space, sink_history, sink_faults, sink_calls, bytes_after};
+    ghost use Rattle.cg_out.specs.MemorySink.{sink_bytes, sink_space, sink_history, sink_seen, bytes_after};
 
-    ghost written = { λ s. Some (sink_bytes s) };
-
-    ghost faults = { sink_faults };
-
-    ghost calls = { sink_calls };
+    ghost seen = { sink_seen };
 
     fn write(&mut self, bytes: &[u8]) -> Result<(), Failed>
-        ensures ok { OnOk result (IfTold (Some (sink_bytes self.old)) (Some (sink_bytes self.new)) (λ a b. b ≡ a ++ bytes.now)) }
-        ensures err { OnErr result (IfTold (Some (sink_bytes self.old)) (Some (sink_bytes self.new)) (λ a b. (front : List ℕ) × IsFront front bytes.now × (b ≡ a ++ front))) }
-        ensures cause { HasCause (sink_faults self.old) (sink_faults self.new) result }
-        ensures calls { CountsCall (sink_calls self.old) (sink_calls self.new) }
+        ensures ok { OnOk result (IfTold (sink_seen self.old).written (sink_seen self.new).written (λ a b. b ≡ a ++ bytes.now)) }
+        ensures err { OnErr result (IfTold (sink_seen self.old).written (sink_seen self.new).written (λ a b. (front : List ℕ) × IsFront front bytes.now × (b ≡ a ++ front))) }
+        ensures cause { HasCause (sink_seen self.old).faults (sink_seen self.new).faults result }
+        ensures calls { CountsCall (sink_seen self.old).calls (sink_seen self.new).calls }
 
         // A write that fits takes its room, whether its call fails or not, and no other one changes anything.
         ensures success { is_ok result ≡ succeeds (sink_space self.old) (length bytes.now) (sink_history self.old) }
@@ -86,4 +81,9 @@ impl Sink for MemorySink {
             }
         }
     }
+    /// Does nothing, since there is no person.
+    fn explain(&mut self, _file: &[u8], _line: u32, _column: Option<u32>, _message: &str)
+        ensures told { sink_seen self.new ≡ sink_seen self.old }
+        ensures same { self.new ≡ self.old }
+    {}
 }

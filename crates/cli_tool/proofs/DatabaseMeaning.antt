@@ -1,5 +1,5 @@
 -- A database that is read has small numbers and different identifiers, so its header declares its constants.
-use Rattle.std.proofs.Common.{◌≡◌, ℕ, ◌≤◌, Bool, true, false, cond, ltb, List, [], ◌∷◌, length, Result, Ok, Err, refl, subst, arith}
+use Rattle.std.proofs.Common.{◌≡◌, ℕ, ◌≤◌, Bool, true, false, cond, List, [], ◌∷◌, length, Result, Ok, Err, refl, subst, arith}
 use Rattle.std.specs.declared.option.Option.{Option}
 use Rattle.std.specs.declared.option.Option.TheVariants.{None, Some}
 use Rattle.std.specs.List.{filter, filter_map, cons_option}
@@ -24,7 +24,7 @@ use Rattle.name_rules.specs.IsIdentifier.{IsIdentifier}
 use Rattle.name_rules.proofs.Shape.{identifier_of-IsIdentifier}
 use Rattle.cli_tool.specs.FileName.{base_name, stem_of, database_name, is_sym}
 use Rattle.gen_unit.specs.Header.{header_text}
-use Rattle.cli_tool.specs.HeaderInFile.{too_large, not_yet, identifiers_of, named_apart, database_of_read, database_within, database_in}
+use Rattle.cli_tool.specs.HeaderInFile.{not_yet, identifiers_of, named_apart, database_of_read, database_in}
 use Rattle.cli_tool.specs.HeaderOfFile.{IsDatabaseOf}
 use Rattle.gen_unit.specs.HeaderMeaning.{DeclaresConstants}
 use Rattle.gen_unit.specs.Small.{IsSmallMessage, AreSmall}
@@ -65,16 +65,12 @@ read-of : (text : List ℕ) (read : Result (List Statement) Refusal) (db : Datab
 read-of text (Ok ss) db h e = (ss, h, e)
 read-of text (Err r) db h e = absurd cc
 
-read-within : (limit : ℕ) (file text : List ℕ) (db : Database) → database_within limit file text ≡ Ok db → IsRead text db
-read-within limit file text db e = by_tests (ltb limit (length text)) (is_sym file) e where
-  by_tests : (a b : Bool) → ◌≡◌ {A = Result Database Refusal} (cond a (Err too_large) (cond b (Err not_yet) (database_of_read (statements_of text)))) (Ok db) → IsRead text db
-  by_tests true b f = absurd cc
-  by_tests false true f = absurd cc
-  by_tests false false f = read-of text (statements_of text) db refl f
-
 read-in : (file text : List ℕ) (db : Database) → database_in file text ≡ Ok db → IsRead text db
 unfolding database_in
-read-in file text db e = read-within 8388608 file text db e
+read-in file text db e = by_test (is_sym file) e where
+  by_test : (b : Bool) → ◌≡◌ {A = Result Database Refusal} (cond b (Err not_yet) (database_of_read (statements_of text))) (Ok db) → IsRead text db
+  by_test true f = absurd cc
+  by_test false f = read-of text (statements_of text) db refl f
 
 abbrev IsReadable : Database → Type 0
 IsReadable db = AreSmall db.messages × (are_distinct (identifiers_of db) ≡ true)

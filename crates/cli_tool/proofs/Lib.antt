@@ -1,6 +1,9 @@
 pub mod OwnNames
 pub mod DatabaseMeaning
 pub mod Texts
+pub mod Cut
+pub mod TextsRead
+pub mod FilesWritten
 pub mod Endings
-pub mod Checks
-pub mod Causes
+pub mod Comes
+pub mod Headers

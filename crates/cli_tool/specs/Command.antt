@@ -1,6 +1,7 @@
 -- What the words of the command line ask for.
 use Rattle.std.specs.Prelude.{ℕ, if◌then◌else◌, List, [], ◌∷◌, codes}
-use Rattle.std.specs.Str.{bytes_eq}
+use Rattle.std.specs.List.{list_all}
+use Rattle.std.specs.Str.{bytes_eq, is_utf8}
 use Rattle.std.specs.declared.option.Option.{Option}
 use Rattle.std.specs.declared.option.Option.TheVariants.{None, Some}
 
@@ -10,8 +11,12 @@ pub data Command : Type 0 where
   -- whether the C texts in these files have a fault
   check : (header source : List ℕ) → Command
 
--- the command that the words are, if they are one
+-- the command that texts are, if they are one
+abbrev pub command_in : List (List ℕ) → Option Command
+command_in (name ∷ file ∷ []) = if bytes_eq name (codes "generate_c_source") then Some (generate_c_source file) else None
+command_in (name ∷ header ∷ source ∷ []) = if bytes_eq name (codes "check") then Some (check header source) else None
+command_in words = None
+
+-- the command that the words are, if they are one; words of which one is no UTF-8 are none
 abbrev pub command_of : List (List ℕ) → Option Command
-command_of (name ∷ file ∷ []) = if bytes_eq name (codes "generate_c_source") then Some (generate_c_source file) else None
-command_of (name ∷ header ∷ source ∷ []) = if bytes_eq name (codes "check") then Some (check header source) else None
-command_of words = None
+command_of words = if list_all is_utf8 words then command_in words else None

@@ -1,7 +1,7 @@
 -- What the text of a file gives: a database with a header, or a refusal.
-use Rattle.std.specs.Prelude.{ℕ, nat_lt, if◌then◌else◌, List, map, length, Result, Ok, Err}
+use Rattle.std.specs.Prelude.{ℕ, if◌then◌else◌, List, map, Result, Ok, Err}
 use Rattle.can_model.specs.declared.database.Database.{Database}
-use Rattle.can_model.specs.declared.refusal.TextKind.TheVariants.{TooLarge, NotYet}
+use Rattle.can_model.specs.declared.refusal.TextKind.TheVariants.{NotYet}
 use Rattle.can_model.specs.Refusal.{Refusal}
 use Rattle.dbc_reader.specs.declared.statement.Statement.{Statement}
 use Rattle.dbc_reader.specs.Reading.{statements_of}
@@ -11,10 +11,7 @@ use Rattle.name_rules.specs.Distinct.{are_distinct}
 use Rattle.cli_tool.specs.FileName.{database_name, is_sym}
 use Rattle.gen_unit.specs.Header.{header_text}
 
--- a text that is longer than a database's may be, and what is not read in this version
-abbrev pub too_large : Refusal
-too_large = record { kind = TooLarge; line = 0 }
-
+-- what is not read in this version
 abbrev pub not_yet : Refusal
 not_yet = record { kind = NotYet; line = 0 }
 
@@ -29,16 +26,9 @@ abbrev pub database_of_read : Result (List Statement) Refusal → Result Databas
 database_of_read (Ok statements) = named_apart (database_of statements)
 database_of_read (Err refusal) = Err not_yet
 
--- the database in a file, by its name and its text, which may have so many bytes
-abbrev pub database_within : ℕ → List ℕ → List ℕ → Result Database Refusal
-database_within limit file text =
-    if nat_lt limit (length text) then Err too_large
-    else if is_sym file then Err not_yet
-    else database_of_read (statements_of text)
-
 -- the database in a file, by its name and its text
 unfoldable pub database_in : List ℕ → List ℕ → Result Database Refusal
-database_in file text = database_within 8388608 file text
+database_in file text = if is_sym file then Err not_yet else database_of_read (statements_of text)
 
 abbrev pub header_of_database : List ℕ → Result Database Refusal → Result (List ℕ) Refusal
 header_of_database file (Ok db) = Ok (header_text (database_name file) db.messages)

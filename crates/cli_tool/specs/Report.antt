@@ -3,8 +3,7 @@ use Rattle.std.specs.Prelude.{ℕ, Bool, true, false, List, [], ◌++◌, codes}
 use Rattle.std.specs.Fmt.{decimal}
 use Rattle.can_model.specs.declared.refusal.TextKind.TheVariants.{TooLarge}
 use Rattle.can_model.specs.Refusal.{Refusal, number_of, name_of}
-use Rattle.c_mean.specs.Refusal as c
-use Rattle.cli_tool.specs.Checked.{Fault, too_large, in_text}
+use Rattle.c_text.specs.Refusal as c
 use Rattle.cli_tool.specs.FileName.{header_path}
 
 unfoldable pub usage_report : List ℕ
@@ -27,6 +26,10 @@ refused_report number name text line =
 abbrev pub refusal_report : Refusal → List ℕ
 refusal_report r = refused_report (number_of r.kind) (name_of r.kind) [] r.line
 
+-- a text has more bytes than it may
+abbrev pub too_large_report : List ℕ
+too_large_report = refusal_report (record { kind = TooLarge; line = 0 })
+
 -- the header, or the source
 unfoldable pub text_named : Bool → List ℕ
 text_named true = codes " header"
@@ -34,8 +37,4 @@ text_named false = codes " source"
 
 -- of one of two C texts
 abbrev pub c_refusal_report : c.Refusal → List ℕ
-c_refusal_report r = refused_report (c.number_of r.kind) (c.name_of r.kind) (text_named r.place.header) r.place.line
-
-abbrev pub fault_report : Fault → List ℕ
-fault_report too_large = refusal_report (record { kind = TooLarge; line = 0 })
-fault_report (in_text refusal) = c_refusal_report refusal
+c_refusal_report r = refused_report (c.kind_number r.kind) (c.kind_name r.kind) (text_named r.place.header) r.place.line

@@ -1,82 +1,79 @@
-//! What a header and a source are as C.
-ghost use Rattle.std.specs.Prelude.{◌≤◌, IfOk, vec_len};
-ghost use Rattle.c_mean.specs.Refusal.{Gives};
-ghost use Rattle.c_mean.specs.Tokens as lexing;
-ghost use Rattle.c_mean.specs.Preprocessing.{preprocessed_texts};
+//! The answer of `check`.
+ghost use Rattle.std.specs.Prelude.{◌≡◌, ◌≤◌, [], ◌∷◌, length, IfOk};
+ghost use Rattle.c_text.specs.Refusal.{Gives};
+ghost use Rattle.c_text.specs.Preprocessing.{preprocessed_texts};
 ghost use Rattle.c_mean.specs.FirstFault.{unit_of_texts};
-ghost use Rattle.cli_tool.specs.Checked.{checked};
-ghost use Rattle.cli_tool.specs.Verdict.{Judges};
+ghost use Rattle.cli_tool.specs.CheckTask.{check_work};
+ghost use Rattle.cli_tool.specs.Asked.{answer_in};
 
+use crate::answer::{Answer, Why};
+use crate::column::column_of;
 use crate::naming::base;
+use crate::reporting::{c_refusal, fine};
 use c_lexer::{SOURCE_LIMIT, tokens};
-use c_mean::{CFault, CKind, Place, Preprocessed, Token, Unit};
+use c_mean::{CFault, CKind, Place, Preprocessed, Unit};
 use c_parser::unit;
 use c_pre::expand;
 use cg_out::Memory;
 use std::alloc::Global;
 
-/// What is found in a header and a source.
-#[derive(Clone, Copy, Debug, PartialEq, Eq)]
-pub enum Verdict {
-    /// No fault.
-    Fine,
-    /// One of them is longer than a C text may be.
-    TooLarge,
-    /// Their first fault, and where it shows.
-    Fault(CKind, Place),
-}
-
-/// What is found in the text of the header in the file of that name and in that of a source; more
-/// bytes than the limit change nothing.
-#[tactic(auto, unfolding(crate::specs::Checked::checked))]
-pub fn judged(
+/// What the texts of a header and a source give: they have no fault, or are refused for their
+/// first. They are lent up to here, since a person is told its column.
+pub fn checked<'a>(
     alloc: Global,
-    file: &[u8],
-    header: Vec<u8>,
-    source: Vec<u8>,
-) -> Result<Verdict, Memory>
-    ensures { IfOk result (Judges (checked file.now header.items source.items)) }
+    header: &'a [u8],
+    source: &'a [u8],
+    header_text: &[u8],
+    source_text: &[u8],
+) -> Result<Answer<'a>, Memory>
+    requires header_fits { length header_text.now ≤ SOURCE_LIMIT }
+    requires source_fits { length source_text.now ≤ SOURCE_LIMIT }
+    ensures { IfOk result (λ a. answer_in a ≡ check_work header.now (header_text.now ∷ source_text.now ∷ [])) }
 {
-    if header.len() > SOURCE_LIMIT || source.len() > SOURCE_LIMIT {
-        return Ok(Verdict::TooLarge);
-    }
-    match unit_of(alloc, header, base(file), source) {
-        Ok(_) => Ok(Verdict::Fine),
-        Err(CFault::Fault { kind, place }) => Ok(Verdict::Fault(kind, place)),
+    match unit_of(alloc, header_text, base(header), source_text) {
+        Ok(_) => Ok(Answer::Outcome(true, Vec::new(alloc), fine(alloc)?)),
+        Err(CFault::Fault { kind, place }) => {
+            let report = c_refusal(alloc, kind, place)?;
+            let why = if place.header {
+                why_of(kind, place, header, header_text)
+            } else {
+                why_of(kind, place, source, source_text)
+            };
+            Ok(Answer::Refused(report, why))
+        }
         Err(CFault::Memory) => Err(Memory),
     }
 }
 
-/// The unit that the texts are, which are let go.
-fn unit_of(alloc: Global, header: Vec<u8>, name: &[u8], source: Vec<u8>) -> Result<Unit, CFault>
-    requires header_fits { vec_len header ≤ SOURCE_LIMIT }
-    requires source_fits { vec_len source ≤ SOURCE_LIMIT }
-    ensures { Gives (λ u. u) result (unit_of_texts header.items name.now source.items) }
+/// Why the text of this file is refused.
+fn why_of<'a>(kind: CKind, place: Place, file: &'a [u8], text: &[u8]) -> Why<'a>
+    requires { length text.now ≤ SOURCE_LIMIT }
+{
+    Why {
+        file,
+        line: place.line,
+        column: Some(column_of(text, place.start)),
+        message: kind.message(),
+    }
+}
+
+/// The unit that the texts are.
+fn unit_of(alloc: Global, header: &[u8], name: &[u8], source: &[u8]) -> Result<Unit, CFault>
+    requires header_fits { length header.now ≤ SOURCE_LIMIT }
+    requires source_fits { length source.now ≤ SOURCE_LIMIT }
+    ensures { Gives (λ u. u) result (unit_of_texts header.now name.now source.now) }
 {
     let left = left_of(alloc, header, name, source)?;
     unit(alloc, left.tokens.items())
 }
 
-/// What preprocessing leaves of the texts, which are let go.
-fn left_of(
-    alloc: Global,
-    header: Vec<u8>,
-    name: &[u8],
-    source: Vec<u8>,
-) -> Result<Preprocessed, CFault>
-    requires header_fits { vec_len header ≤ SOURCE_LIMIT }
-    requires source_fits { vec_len source ≤ SOURCE_LIMIT }
-    ensures { Gives (λ x. x) result (preprocessed_texts header.items name.now source.items) }
+/// What preprocessing leaves of the texts.
+fn left_of(alloc: Global, header: &[u8], name: &[u8], source: &[u8]) -> Result<Preprocessed, CFault>
+    requires header_fits { length header.now ≤ SOURCE_LIMIT }
+    requires source_fits { length source.now ≤ SOURCE_LIMIT }
+    ensures { Gives (λ x. x) result (preprocessed_texts header.now name.now source.now) }
 {
-    let header = tokens_of(alloc, header, true)?;
-    let source = tokens_of(alloc, source, false)?;
+    let header = tokens(alloc, header, true)?;
+    let source = tokens(alloc, source, false)?;
     expand(alloc, &header, name, &source)
-}
-
-/// The tokens of a text, which is let go.
-fn tokens_of(alloc: Global, text: Vec<u8>, header: bool) -> Result<Vec<Token>, CFault>
-    requires { vec_len text ≤ SOURCE_LIMIT }
-    ensures { Gives (λ v. v.items) result (lexing.tokens header text.items) }
-{
-    tokens(alloc, &text, header)
 }

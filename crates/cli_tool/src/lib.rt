@@ -6,15 +6,20 @@
 //! ```
 #![tactic(auto)]
 
+mod answer;
 mod checking;
+mod column;
+mod command;
+mod generating;
 mod naming;
-mod planning;
+mod performing;
 mod reading;
 mod reporting;
 mod running;
 mod status;
 mod word;
 mod words;
+mod writing;
 
 pub use running::run;
 pub use status::Status;

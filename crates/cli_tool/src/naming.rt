@@ -9,7 +9,7 @@ use name_rules::identifier;
 use std::alloc::Global;
 
 /// How many bytes stand up to and with the last that equals the mark.
-fn up_to_last_of(mark: u8, bytes: &[u8]) -> usize
+pub fn up_to_last_of(mark: u8, bytes: &[u8]) -> usize
     ensures value { result ≡ up_to_last mark bytes.now }
     ensures within { result ≤ length bytes.now }
 {

@@ -1,53 +1,99 @@
 //! The texts of files.
-ghost use Rattle.std.specs.Prelude.{◌≤◌, ◌<◌, IfOk, IfErr};
-ghost use Rattle.cli_tool.specs.World.{files_seen};
-ghost use Rattle.cli_tool.specs.Reading.{ReadsText, ReadsBoth, HasNoText, HasNotBoth};
+ghost use Rattle.std.specs.Prelude.{◌≡◌, ◌≤◌, ◌<◌, false, true, is_none, IfOk, IfErr};
+ghost use Rattle.cli_tool.specs.Task.{are_within};
+ghost use Rattle.cli_tool.specs.Reading.{ReadsText, ReadsTexts, HasNoText, HasNotAll};
+ghost use Rattle.cli_tool.specs.Asked.{task_by};
 
+use crate::command::Command;
 use crate::status::Status;
-use c_lexer::SOURCE_LIMIT;
 use cg_out::{Files, ReadFault};
 use std::alloc::Global;
+use std::marker::Model;
 
-/// The text of a file, or its first bytes, one more than the limit; else the status to end with.
-pub fn read_text<F: Files>(
-    alloc: Global,
-    file: &[u8],
-    limit: usize,
-    files: &mut F,
-) -> Result<Vec<u8>, Status>
-    requires { limit < usize.MAX }
-    ensures ok { IfOk result (λ text. ReadsText limit file.now text.items
-        (files_seen (F.content files.old) (F.faults files.old) (F.calls files.old))
-        (files_seen (F.content files.new) (F.faults files.new) (F.calls files.new))) }
-    ensures err { IfErr result (HasNoText file.now
-        (files_seen (F.content files.old) (F.faults files.old) (F.calls files.old))
-        (files_seen (F.content files.new) (F.faults files.new) (F.calls files.new))) }
-    ensures later { F.faults files.old ≤ F.faults files.new }
+/// A file that is read, and how many bytes its text may have.
+#[derive(Drop)]
+pub struct Input<'a> {
+    pub file: &'a [u8],
+    pub limit: usize,
+}
+
+impl<'a> Model for Input<'a> {
+    ghost use Rattle.cli_tool.specs.Task.{Input as Read};
+
+    ghost Value = { Read };
+
+    ghost view = { λ i. record { file = i.file.now; limit = i.limit } };
+}
+
+/// The text of a file; contracts see its bytes.
+#[derive(Drop)]
+pub struct FileText {
+    content: Vec<u8>,
+}
+
+impl Model for FileText {
+    ghost use Rattle.std.specs.Prelude.{List, ℕ};
+
+    ghost Value = { List ℕ };
+
+    ghost view = { λ t. t.content.items };
+}
+
+impl FileText {
+    /// Lends the bytes.
+    pub fn bytes(&self) -> &[u8]
+        ensures { result.now ≡ self.now }
+    {
+        self.content.as_slice()
+    }
+}
+
+/// The text of a file, or its first bytes, one more than it may have; else the status to end with.
+fn read_text<F: Files>(alloc: Global, input: &Input<'_>, files: &mut F) -> Result<FileText, Status>
+    requires { input.now.limit < usize.MAX }
+    ensures ok { IfOk result (λ text. ReadsText input.now text (F.seen files.old) (F.seen files.new)) }
+    ensures err { IfErr result (HasNoText input.now (F.seen files.old) (F.seen files.new)) }
+    ensures later { (F.seen files.old).faults ≤ (F.seen files.new).faults }
 {
-    let mut text = Vec::new(alloc);
-    match files.read(file, limit, &mut text) {
-        Ok(()) => Ok(text),
+    let mut content = Vec::new(alloc);
+    match files.read(input.file, input.limit, &mut content) {
+        Ok(()) => Ok(FileText { content }),
         Err(ReadFault::Memory) => Err(Status::NoMemory),
         Err(_) => Err(Status::FileFault),
     }
 }
 
-/// The texts of a header and of a source, read in this order, each with `SOURCE_LIMIT`.
-pub fn read_both<F: Files>(
+/// The texts of the files that the command reads, in their order; else the status to end with.
+pub fn read_texts<F: Files>(
     alloc: Global,
-    header: &[u8],
-    source: &[u8],
+    command: &Command<'_>,
     files: &mut F,
-) -> Result<(Vec<u8>, Vec<u8>), Status>
-    ensures ok { IfOk result (λ texts. ReadsBoth SOURCE_LIMIT header.now source.now texts.0.items texts.1.items
-        (files_seen (F.content files.old) (F.faults files.old) (F.calls files.old))
-        (files_seen (F.content files.new) (F.faults files.new) (F.calls files.new))) }
-    ensures err { IfErr result (HasNotBoth header.now source.now
-        (files_seen (F.content files.old) (F.faults files.old) (F.calls files.old))
-        (files_seen (F.content files.new) (F.faults files.new) (F.calls files.new))) }
-    ensures later { F.faults files.old ≤ F.faults files.new }
+) -> Result<Vec<FileText>, Status>
+    ensures ok { IfOk result (λ texts. ReadsTexts (task_by command.now).inputs texts.items
+        (F.seen files.old) (F.seen files.new)) }
+    ensures err { IfErr result (HasNotAll (task_by command.now).inputs (F.seen files.old)
+        (F.seen files.new)) }
+    ensures later { (F.seen files.old).faults ≤ (F.seen files.new).faults }
 {
-    let header_text = read_text(alloc, header, SOURCE_LIMIT, files)?;
-    let source_text = read_text(alloc, source, SOURCE_LIMIT, files)?;
-    Ok((header_text, source_text))
+    let mut texts = Vec::new(alloc);
+    while let Some(input) = command.input(texts.len()) {
+        let text = read_text(alloc, &input, files)?;
+        if texts.push(text).is_err() {
+            return Err(Status::NoMemory);
+        }
+    }
+    Ok(texts)
+}
+
+/// The first file whose text has more bytes than it may.
+pub fn too_long<'a>(command: &Command<'a>, texts: &[FileText]) -> Option<Input<'a>>
+    ensures { is_none result ≡ are_within (task_by command.now).inputs texts.now }
+{
+    for (index, text) in texts.iter().enumerate() {
+        let input = command.input(index)?;
+        if text.bytes().len() > input.limit {
+            return Some(input);
+        }
+    }
+    None
 }

@@ -1,14 +1,11 @@
 //! What a run writes to its sink.
-ghost use Rattle.std.specs.Prelude.{◌≡◌, ◌≤◌, IfOk};
+ghost use Rattle.std.specs.Prelude.{◌≡◌, IfOk};
 ghost use Rattle.cli_tool.specs.Report.{usage_report, written_report, fine_report, text_named, refused_report, refusal_report, c_refusal_report};
-ghost use Rattle.cli_tool.specs.World.{sink_seen};
-ghost use Rattle.cli_tool.specs.Telling.{Tells, TellsRefusal};
 
 use crate::naming::header_file;
-use crate::status::Status;
 use c_mean::{CKind, Place};
 use can_model::TextKind;
-use cg_out::{Failed, Memory, Sink};
+use cg_out::Memory;
 use itoa::Buffer;
 use std::alloc::{AllocError, Global};
 
@@ -32,10 +29,10 @@ pub fn written(alloc: Global, file: &[u8]) -> Result<Vec<u8>, Memory>
 
 /// The report of texts without a fault.
 #[tactic(auto, unfolding(crate::specs::Report::fine_report))]
-pub fn fine() -> &'static [u8]
-    ensures { result.now ≡ fine_report }
+pub fn fine(alloc: Global) -> Result<Vec<u8>, Memory>
+    ensures { IfOk result (λ v. v.items ≡ fine_report) }
 {
-    b"ok\n"
+    Ok(Vec::from_slice(alloc, b"ok\n")?)
 }
 
 /// The text in which a place is, behind a blank.
@@ -68,54 +65,17 @@ fn refused(
     Ok(report)
 }
 
-/// Writes a report, and answers its status, or that the sink failed.
-pub fn tell<O: Sink>(out: &mut O, report: &[u8], status: Status) -> Status
-    ensures told { Tells (sink_seen (O.written out.old) (O.faults out.old) (O.calls out.old)) (sink_seen (O.written out.new) (O.faults out.new) (O.calls out.new)) report.now status result }
-    ensures later { O.faults out.old ≤ O.faults out.new }
+/// The report of a text that is refused.
+pub fn refusal(alloc: Global, kind: TextKind, line: u32) -> Result<Vec<u8>, Memory>
+    ensures { IfOk result (λ v. v.items ≡ refusal_report (record { kind = kind; line = line })) }
 {
-    match out.write(report) {
-        Ok(()) => status,
-        Err(Failed) => Status::OutFault,
-    }
+    Ok(refused(alloc, kind.number(), kind.name(), "", line)?)
 }
 
-/// Tells a refusal.
-fn tell_refusal<O: Sink>(
-    alloc: Global,
-    out: &mut O,
-    number: u8,
-    name: &str,
-    text: &str,
-    line: u32,
-) -> Status
-    ensures told { TellsRefusal (sink_seen (O.written out.old) (O.faults out.old) (O.calls out.old)) (sink_seen (O.written out.new) (O.faults out.new) (O.calls out.new)) (refused_report number name.now text.now line) result }
-    ensures later { O.faults out.old ≤ O.faults out.new }
+/// The report of one of two C texts that is refused.
+pub fn c_refusal(alloc: Global, kind: CKind, place: Place) -> Result<Vec<u8>, Memory>
+    ensures { IfOk result (λ v. v.items ≡ c_refusal_report (record { kind = kind; place = place })) }
 {
-    match refused(alloc, number, name, text, line) {
-        Ok(report) => tell(out, &report, Status::Refused),
-        Err(_) => Status::NoMemory,
-    }
-}
-
-/// Tells why a text is refused.
-pub fn refuse<O: Sink>(alloc: Global, out: &mut O, kind: TextKind, line: u32) -> Status
-    ensures told { TellsRefusal (sink_seen (O.written out.old) (O.faults out.old) (O.calls out.old)) (sink_seen (O.written out.new) (O.faults out.new) (O.calls out.new)) (refusal_report (record { kind = kind; line = line })) result }
-    ensures later { O.faults out.old ≤ O.faults out.new }
-{
-    tell_refusal(alloc, out, kind.number(), kind.name(), "", line)
-}
-
-/// Tells why one of two C texts is refused.
-pub fn refuse_c<O: Sink>(alloc: Global, out: &mut O, kind: CKind, place: Place) -> Status
-    ensures told { TellsRefusal (sink_seen (O.written out.old) (O.faults out.old) (O.calls out.old)) (sink_seen (O.written out.new) (O.faults out.new) (O.calls out.new)) (c_refusal_report (record { kind = kind; place = place })) result }
-    ensures later { O.faults out.old ≤ O.faults out.new }
-{
-    tell_refusal(
-        alloc,
-        out,
-        kind.number(),
-        kind.name(),
-        text_named(place),
-        place.line,
-    )
+    let text = text_named(place);
+    Ok(refused(alloc, kind.number(), kind.name(), text, place.line)?)
 }

@@ -8,6 +8,3 @@
 mod building;
 
 pub use building::database;
-
-#[cfg(test)]
-mod tests;

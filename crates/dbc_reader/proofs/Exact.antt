@@ -9,7 +9,8 @@ use Rattle.dbc_reader.specs.declared.token.Lexed.{Lexed}
 use Rattle.dbc_reader.specs.declared.statement.Statement.{Statement}
 use Rattle.dbc_reader.specs.Template.{Test, Template, done, one, choose, run, Field, passes}
 use Rattle.dbc_reader.specs.Rows.{Row, row_of}
-use Rattle.dbc_reader.specs.Reading.{◌>>=◌, one_at, next_passes, past, template_at, row_at, begun_at, statement_at, all_of}
+use Rattle.dbc_reader.specs.Reading.{one_at, next_passes, past, template_at, row_at, begun_at, statement_at, all_of}
+use Rattle.cg_out.specs.Words.{◌>>=◌}
 use Rattle.dbc_reader.specs.Statements.{EndsRun, Passing, Fits, BeginsWith, AreStatements}
 use Rattle.dbc_reader.proofs.Steps.{joined, joined_ok, bind_ok, ok_is, statement_ok, statement_shorter, all_of-step, all_of-stop, all_of-nil}
 

@@ -14,7 +14,8 @@ use Rattle.dbc_reader.specs.declared.statement.Statement.{Statement}
 use Rattle.dbc_reader.specs.declared.statement.Body.{Body}
 use Rattle.dbc_reader.specs.Template.{Field}
 use Rattle.dbc_reader.specs.Rows.{Row, row_of}
-use Rattle.dbc_reader.specs.Reading.{◌>>=◌, fault_at, template_at, made_at, row_at, begun_at, statement_at, all_of}
+use Rattle.dbc_reader.specs.Reading.{fault_at, template_at, made_at, row_at, begun_at, statement_at, all_of}
+use Rattle.cg_out.specs.Words.{◌>>=◌}
 use Rattle.dbc_reader.specs.Statements.{Fits, AreStatements}
 use Rattle.dbc_reader.specs.FirstFault.{AreWhole, AreBegun, WantsNumber, HasKind, StopsAt, IsFirstTokenFault}
 use Rattle.dbc_reader.proofs.Steps.{statement_ok, statement_shorter, all_of-step, all_of-stop, all_of-nil}

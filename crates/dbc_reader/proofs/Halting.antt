@@ -10,7 +10,8 @@ use Rattle.dbc_reader.specs.declared.token.Token.{Token}
 use Rattle.dbc_reader.specs.declared.token.Token.TheVariants.{Word, Number, String, Mark, Bad}
 use Rattle.dbc_reader.specs.declared.token.Lexed.{Lexed}
 use Rattle.dbc_reader.specs.Template.{Want, word, string, mark, whole_number, Test, is_string, is_name, Template, done, one, choose, run, Field, number_field, number_or_fault, given, passes}
-use Rattle.dbc_reader.specs.Reading.{◌>>=◌, fault_at, with_rest, one_at, next_passes, past, template_at}
+use Rattle.dbc_reader.specs.Reading.{fault_at, with_rest, one_at, next_passes, past, template_at}
+use Rattle.cg_out.specs.Words.{◌>>=◌}
 use Rattle.dbc_reader.proofs.Steps.{joined}
 use Rattle.dbc_reader.proofs.Exact.{past_splits, past-append, ended_next}
 use Rattle.dbc_reader.proofs.Lively.{MayFollow, ends_local, numbered, zero_token, zero_given, Accepts, IsLive, live}

@@ -7,7 +7,8 @@ use Rattle.can_model.specs.declared.refusal.TextFault.{TextFault}
 use Rattle.can_model.specs.declared.refusal.TextFault.TheVariants.{Fault, Memory}
 use Rattle.dbc_reader.specs.declared.statement.Statement.{Statement}
 use Rattle.dbc_reader.specs.declared.token.Lexed.{Lexed}
-use Rattle.dbc_reader.specs.Reading.{◌>>=◌, statement_at, all_of}
+use Rattle.dbc_reader.specs.Reading.{statement_at, all_of}
+use Rattle.cg_out.specs.Words.{◌>>=◌}
 use Rattle.dbc_reader.proofs.Steps.{all_of-step, all_of-stop, all_of-nil}
 
 -- what reading gives, behind what was read before

@@ -11,7 +11,8 @@ use Rattle.dbc_reader.specs.declared.statement.Statement.{Statement}
 use Rattle.dbc_reader.specs.declared.statement.Body.{Body}
 use Rattle.dbc_reader.specs.Template.{Want, Test, Template, done, one, choose, run, Field, given, passes}
 use Rattle.dbc_reader.specs.Rows.{Row, row_of}
-use Rattle.dbc_reader.specs.Reading.{◌>>=◌, with_rest, one_at, next_passes, past, template_at, made_at, row_at, begun_at, statement_at, statements_at, all_of}
+use Rattle.dbc_reader.specs.Reading.{with_rest, one_at, next_passes, past, template_at, made_at, row_at, begun_at, statement_at, statements_at, all_of}
+use Rattle.cg_out.specs.Words.{◌>>=◌}
 
 -- a step that found no fault
 pub bind_ok : {A B : Type 0} (r : Result A Refusal) (f : A → Result B Refusal) (y : B) → (r >>= f) ≡ Ok y → (x : A) × (r ≡ Ok x) × (f x ≡ Ok y)

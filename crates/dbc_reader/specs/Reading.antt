@@ -5,6 +5,7 @@ use Rattle.std.specs.declared.option.Option.TheVariants.{None, Some}
 use Rattle.can_model.specs.Refusal.{Refusal}
 use Rattle.can_model.specs.declared.refusal.TextKind.{TextKind}
 use Rattle.can_model.specs.declared.refusal.TextKind.TheVariants.{Unexpected, TooLarge}
+use Rattle.can_model.specs.declared.refusal.TheConstants.{TEXT_LIMIT}
 use Rattle.dbc_reader.specs.declared.token.Token.{Token}
 use Rattle.dbc_reader.specs.declared.token.Token.TheVariants.{Word, Bad}
 use Rattle.dbc_reader.specs.declared.token.Lexed.{Lexed}
@@ -13,12 +14,7 @@ use Rattle.dbc_reader.specs.declared.statement.Body.{Body}
 use Rattle.dbc_reader.specs.Tokens.{tokens, end_line}
 use Rattle.dbc_reader.specs.Template.{Want, Test, Template, done, one, choose, run, Field, given, passes}
 use Rattle.dbc_reader.specs.Rows.{Row, row_of}
-
-infixl 10 ◌>>=◌
--- the next step, where there is no fault yet
-abbrev pub ◌>>=◌ : {A B : Type 0} → Result A Refusal → (A → Result B Refusal) → Result B Refusal
-(Ok x) >>= f = f x
-(Err e) >>= f = Err e
+use Rattle.cg_out.specs.Words.{◌>>=◌}
 
 -- a fault of this kind at this line
 abbrev pub fault_at : TextKind → ℕ → Refusal
@@ -82,7 +78,7 @@ all_of end ts = statements_at end (length ts) ts
 
 -- the text is longer than 8 MiB
 unfoldable pub too_large : List ℕ → Bool
-too_large text = nat_lt 8388608 (length text)
+too_large text = nat_lt TEXT_LIMIT (length text)
 
 -- the statements of a text, or its first fault
 abbrev pub statements_of : List ℕ → Result (List Statement) Refusal

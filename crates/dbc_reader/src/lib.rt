@@ -16,6 +16,3 @@ mod token;
 
 pub use reading::statements;
 pub use statement::{Body, Statement};
-
-#[cfg(test)]
-mod tests;

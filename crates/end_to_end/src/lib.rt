@@ -1,13 +1,18 @@
-//! Rows over the whole program: `cli_tool::run` over files and a sink in memory, what it writes, read
-//! as C by `c_lexer::tokens` and `c_pre::expand`, and trees that `c_parser::unit` gives.
+//! Rows over the whole program: `cli_tool::run` over files and a sink in memory, what it writes,
+//! read as C by `c_lexer::tokens` and `c_pre::expand`, and a table of C, with its trees by
+//! `c_parser::unit` or its first fault beside it.
 #![tactic(auto)]
 
 #[cfg(test)]
 mod checks;
 #[cfg(test)]
+mod explained;
+#[cfg(test)]
 mod reading;
 #[cfg(test)]
 mod rows;
+#[cfg(test)]
+mod shown;
 #[cfg(test)]
 mod table;
 #[cfg(test)]

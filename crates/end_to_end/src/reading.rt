@@ -1,6 +1,6 @@
 //! The header of the first row, read as C.
-ghost use Rattle.c_mean.specs.Refusal.{Gives};
-ghost use Rattle.c_mean.specs.Tokens as lexing;
+ghost use Rattle.c_text.specs.Refusal.{Gives};
+ghost use Rattle.c_text.specs.Tokens as lexing;
 
 use crate::rows::CAN_HEADER;
 use c_lexer::{SOURCE_LIMIT, tokens};

@@ -70,7 +70,32 @@ const SHOWN_HEADER: &[u8] = b"/* Generated from a CAN database. Do not edit. */
 #endif
 ";
 
-const TRUCK: &[u8] = b"VERSION \"\"\n\nNS_ :\n\tNS_DESC_\n\tCM_\n\nBS_:\n\nBU_: Engine Gateway\n";
+/// An ordinary editor file, with a signal and statements of which nothing is kept.
+const TRUCK: &[u8] = b"VERSION \"\"
+
+NS_ :
+\tNS_DESC_
+\tCM_
+\tBA_DEF_
+\tSG_MUL_VAL_
+
+BS_:
+
+BU_: Engine Gateway
+VAL_TABLE_ OnOff 1 \"On\" 0 \"Off\" ;
+
+BO_ 2364540158 EEC1: 8 Engine
+ SG_ EngineSpeed : 24|16@1+ (0.125,0) [0|8031.875] \"rpm\"  Gateway
+
+BO_ 3221225472 VECTOR__INDEPENDENT_SIG_MSG: 0 Vector__XXX
+ SG_ Unused : 0|8@1+ (1,0) [0|0] \"\" Vector__XXX
+
+BO_TX_BU_ 2364540158 : Engine,Gateway;
+CM_ SG_ 2364540158 EngineSpeed \"Actual engine speed.\";
+BA_DEF_ BO_  \"GenMsgCycleTime\" INT 0 65535;
+BA_DEF_DEF_  \"GenMsgCycleTime\" 0;
+BA_ \"GenMsgCycleTime\" BO_ 2364540158 100;
+";
 
 const NOT_YET: &[u8] = b"refused 25 NotYet line 0\n";
 
@@ -140,6 +165,7 @@ fn words_and_the_outside_fail(rt: HostRuntime) -> Result<(), Fail> {
         "generate_c_source can.dbc can.dbc",
         "generate can.dbc",
         "can.dbc generate_c_source",
+        "decode example.dbc 497 00",
     ] {
         let row = plain(
             words,

@@ -9,14 +9,14 @@ use Rattle.can_model.specs.declared.database.Message.{Message}
 use Rattle.name_rules.specs.IsIdentifier.{is_identifier_byte, IsIdentifier}
 use Rattle.name_rules.specs.Identifier.{identifier_of}
 use Rattle.name_rules.proofs.Shape.{identifier_of-IsIdentifier}
-use Rattle.c_mean.specs.Characters.{is_letter, goes_on, Pass, IsName}
-use Rattle.c_mean.specs.SeenToken.{Bare}
-use Rattle.c_mean.specs.StandardHeader.{stdbool_h, stddef_h, stdint_h}
-use Rattle.c_mean.specs.Directive.{standard, define, conditional, endif}
-use Rattle.c_mean.specs.Preprocessing.{Named}
-use Rattle.c_mean.proofs.Boundary.{pass-all, pass-append}
-use Rattle.c_mean.proofs.Defines.{defines}
-use Rattle.c_mean.proofs.GuardedHeader.{guarded_header}
+use Rattle.c_text.specs.Characters.{is_letter, goes_on, Pass, IsName}
+use Rattle.c_text.specs.SeenToken.{Bare}
+use Rattle.c_text.specs.StandardHeader.{stdbool_h, stddef_h, stdint_h}
+use Rattle.c_text.specs.Directive.{standard, define, conditional, endif}
+use Rattle.c_text.specs.Preprocessing.{NamedBody}
+use Rattle.c_text.proofs.Boundary.{pass-all, pass-append}
+use Rattle.c_text.proofs.Defines.{defines}
+use Rattle.c_text.proofs.GuardedHeader.{guarded_header}
 use Rattle.gen_unit.specs.Parts.{end_if}
 use Rattle.gen_unit.specs.Header.{error_name, upper, guard_of, prefix_of, message_parts, opening_parts, include_parts, error_parts, header_parts}
 use Rattle.gen_unit.specs.Small.{IsSmallMessage, AreSmall}
@@ -66,7 +66,7 @@ name-macro name suffix m h p =
 
 -- ---- what each message says
 
-abbrev pub message_macros : List ℕ → Message → List (Named (Unit {0}))
+abbrev pub message_macros : List ℕ → Message → List (NamedBody (Unit {0}))
 message_macros name m =
     (prefix_of name m ++ codes "_FRAME_ID", body_tokens (Hexadecimal m.id))
     ∷ (prefix_of name m ++ codes "_LENGTH", body_tokens (Unsigned m.length))
@@ -104,7 +104,7 @@ say-message name m h s =
       refl,
     )
 
-abbrev pub all_macros : List ℕ → List Message → List (Named (Unit {0}))
+abbrev pub all_macros : List ℕ → List Message → List (NamedBody (Unit {0}))
 all_macros name ms = flat_map (message_macros name) ms
 
 say-messages : (name : List ℕ) (ms : List Message) → IsIdentifier name → AreSmall ms → SayAll (flat_map (message_parts name) ms) (defines tt (all_macros name ms))

@@ -6,20 +6,20 @@ use Rattle.std.specs.List.{AllByRecursion, flat_map}
 use Rattle.std.proofs.lemmas.Bool.Decides.{nat_tests}
 use Rattle.can_model.specs.declared.database.Message.{Message}
 use Rattle.name_rules.specs.IsIdentifier.{is_identifier_byte, IsIdentifier}
-use Rattle.c_mean.specs.Refusal.{Refusal}
-use Rattle.c_mean.specs.Characters.{goes_on, Pass}
-use Rattle.c_mean.specs.Splice.{is_plain}
-use Rattle.c_mean.specs.Piece.{in_string}
-use Rattle.c_mean.specs.declared.token.Token.{Token}
-use Rattle.c_mean.specs.declared.preprocessed.Preprocessed.{Preprocessed}
-use Rattle.c_mean.specs.Directive.{quoted}
-use Rattle.c_mean.specs.Preprocessing.{preprocessed_texts}
-use Rattle.c_mean.specs.BarePreprocessing.{BareLeft, bare_preprocessed, bare_left, token_kinds, macro_kinds, named_kinds}
-use Rattle.c_mean.proofs.Boundary.{pass-all, pass-append}
-use Rattle.c_mean.proofs.PrintedLines.{bytes-in_string, bytes-plain}
-use Rattle.c_mean.proofs.HeaderLines.{quoted-line}
-use Rattle.c_mean.proofs.TextLines.{AreLines, texts-lines}
-use Rattle.c_mean.proofs.GuardedHeader.{guarded_header, guarded-left}
+use Rattle.c_text.specs.Refusal.{Refusal}
+use Rattle.c_text.specs.Characters.{goes_on, Pass}
+use Rattle.c_text.specs.Splice.{is_plain}
+use Rattle.c_text.specs.Piece.{in_string}
+use Rattle.c_text.specs.declared.token.Token.{Token}
+use Rattle.c_text.specs.declared.preprocessed.Preprocessed.{Preprocessed}
+use Rattle.c_text.specs.Directive.{quoted}
+use Rattle.c_text.specs.Preprocessing.{preprocessed_texts}
+use Rattle.c_text.specs.BarePreprocessing.{BareLeft, bare_preprocessed, bare_left, token_kinds, macro_kinds, named_kinds}
+use Rattle.c_text.proofs.Boundary.{pass-all, pass-append}
+use Rattle.c_text.proofs.PrintedLines.{bytes-in_string, bytes-plain}
+use Rattle.c_text.proofs.HeaderLines.{quoted-line}
+use Rattle.c_text.proofs.TextLines.{AreLines, texts-lines}
+use Rattle.c_text.proofs.GuardedHeader.{guarded_header, guarded-left}
 use Rattle.gen_unit.specs.Header.{guard_of, header_parts, header_text}
 use Rattle.name_rules.specs.Distinct.{are_distinct}
 use Rattle.gen_unit.specs.HeaderMeaning.{Macro, number, constants_of, header_name, including, DeclaresConstants}

@@ -12,12 +12,12 @@ use Rattle.can_model.specs.declared.database.Message.{Message}
 use Rattle.name_rules.specs.IsIdentifier.{is_identifier_byte}
 use Rattle.name_rules.specs.Identifier.{identifier_of}
 use Rattle.name_rules.proofs.Shape.{identifier_of-IsIdentifier}
-use Rattle.c_mean.specs.SeenToken.{Bare}
-use Rattle.c_mean.specs.Directive.{define}
-use Rattle.c_mean.specs.MacroDefinition.{is_macro}
-use Rattle.c_mean.specs.Preprocessing.{Named}
-use Rattle.c_mean.proofs.Defines.{AreNew, is_macro-append, is_macro-define}
-use Rattle.c_mean.proofs.GuardedHeader.{guarded_front}
+use Rattle.c_text.specs.SeenToken.{Bare}
+use Rattle.c_text.specs.Directive.{define}
+use Rattle.c_text.specs.MacroDefinition.{is_macro}
+use Rattle.c_text.specs.Preprocessing.{NamedBody}
+use Rattle.c_text.proofs.Defines.{AreNew, is_macro-append, is_macro-define}
+use Rattle.c_text.proofs.GuardedHeader.{guarded_front}
 use Rattle.gen_unit.specs.Header.{upper, guard_of, prefix_of}
 use Rattle.name_rules.specs.Distinct.{are_distinct}
 use Rattle.gen_unit.proofs.PartLines.{BareLine}
@@ -93,7 +93,7 @@ extended-frame x y = ends_apart x (codes "_IS_EXTEND") y (codes "_FRAME_") 69 68
 extended-size : (x y : List ℕ) → bytes_eq (x ++ extended) (y ++ size) ≡ false
 extended-size x y = ends_apart x (codes "_IS_EXTEND") y (codes "_LENG") 69 68 84 72 refl
 
-abbrev pub names : List (Named (Unit {0})) → List (List ℕ)
+abbrev pub names : List (NamedBody (Unit {0})) → List (List ℕ)
 names ds = map (λ d. d.0) ds
 
 abbrev pub ids : List Message → List (List ℕ)
@@ -144,16 +144,16 @@ macros-distinct name (m ∷ ms) h =
 
 -- ---- none of them is a macro before its line
 
-abbrev AreNone : List BareLine → List (Named (Unit {0})) → Type 0
+abbrev AreNone : List BareLine → List (NamedBody (Unit {0})) → Type 0
 AreNone before ds = AllByRecursion (λ d. is_macro d.0 before ≡ false) ds
 
-none-more : (before : List BareLine) (n : List ℕ) (body : List Bare) (ds : List (Named (Unit {0}))) → AreNone before ds → list_any (bytes_eq n) (names ds) ≡ false → AreNone (before ++ define tt n body ∷ []) ds
+none-more : (before : List BareLine) (n : List ℕ) (body : List Bare) (ds : List (NamedBody (Unit {0}))) → AreNone before ds → list_any (bytes_eq n) (names ds) ≡ false → AreNone (before ++ define tt n body ∷ []) ds
 none-more before n body [] h k = tt
 none-more before n body (d ∷ ds) h k =
     let p = either_false (bytes_eq n d.0) (list_any (bytes_eq n) (names ds)) k in
     (is_macro-append d.0 before (define tt n body ∷ []) ∙ (λ i. h.0 i || is_macro-define d.0 tt n body i) ∙ p.0, none-more before n body ds h.1 p.1)
 
-new-from : (before : List BareLine) (ds : List (Named (Unit {0}))) → AreNone before ds → are_distinct (names ds) ≡ true → AreNew tt before ds
+new-from : (before : List BareLine) (ds : List (NamedBody (Unit {0}))) → AreNone before ds → are_distinct (names ds) ≡ true → AreNew tt before ds
 new-from before [] h k = tt
 new-from before (d ∷ ds) h k =
     let p = both_true (list_any (bytes_eq d.0) (names ds)) (are_distinct (names ds)) k in

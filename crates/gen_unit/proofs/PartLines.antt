@@ -5,16 +5,16 @@ use Rattle.std.specs.declared.option.Option.TheVariants.{None}
 use Rattle.std.specs.Fmt.{decimal, digits}
 use Rattle.std.proofs.lemmas.Fmt.{decimal_digit}
 use Rattle.std.proofs.lemmas.Bool.Decides.{nat_tests}
-use Rattle.c_mean.specs.Characters.{Pass, IsName}
-use Rattle.c_mean.specs.Splice.{is_plain}
-use Rattle.c_mean.specs.SeenToken.{Bare}
-use Rattle.c_mean.specs.StandardHeader.{stdbool_h, stddef_h, stdint_h}
-use Rattle.c_mean.specs.Directive.{Line, standard, define, conditional, endif}
-use Rattle.c_mean.specs.declared.token.TokenKind.TheVariants.{Constant as Number}
-use Rattle.c_mean.proofs.Boundary.{is_no_star}
-use Rattle.c_mean.proofs.Constants.{constant, no-suffix, u-suffix}
-use Rattle.c_mean.proofs.HeaderLines.{apart, bracketed, decimal-number, hexadecimal-number, blank-line, comment-line, endif-line, ifndef-line, define_empty-line, define_number-line, define_bracketed-line, stdbool-line, stddef-line, stdint-line}
-use Rattle.c_mean.proofs.TextLines.{AreLines, no-lines, more-lines}
+use Rattle.c_text.specs.Characters.{Pass, IsName}
+use Rattle.c_text.specs.Splice.{is_plain}
+use Rattle.c_text.specs.SeenToken.{Bare}
+use Rattle.c_text.specs.StandardHeader.{stdbool_h, stddef_h, stdint_h}
+use Rattle.c_text.specs.Directive.{Line, standard, define, conditional, endif}
+use Rattle.c_text.specs.declared.token.TokenKind.TheVariants.{Constant as Number}
+use Rattle.c_text.proofs.Boundary.{is_no_star}
+use Rattle.c_text.proofs.Constants.{constant, no-suffix, u-suffix}
+use Rattle.c_text.proofs.HeaderLines.{apart, bracketed, decimal-number, hexadecimal-number, blank-line, comment-line, endif-line, ifndef-line, define_empty-line, define_number-line, define_bracketed-line, stdbool-line, stddef-line, stdint-line}
+use Rattle.c_text.proofs.TextLines.{AreLines, no-lines, more-lines}
 use Rattle.gen_unit.specs.Parts.{Part, comment, blank, include, if_not_defined, define as define_part, end_if, shown_byte, body_text, comment_line, include_line, if_not_defined_line, define_line, end_if_line, part_text, text_of}
 use Rattle.gen_unit.specs.declared.parts.MacroBody.{MacroBody}
 use Rattle.gen_unit.specs.declared.parts.MacroBody.TheVariants.{Empty, Plain, Hexadecimal, Unsigned, Flag}

@@ -1,10 +1,10 @@
 -- Worked values of the definitions, by computation.
-use Rattle.std.proofs.Common.{◌≡◌, List, [], ◌∷◌, true, false, refl}
+use Rattle.std.proofs.Common.{◌≡◌, [], ◌∷◌, true, false, refl}
 use Rattle.std.specs.Prelude.{codes}
 use Rattle.std.specs.declared.option.Option.TheVariants.{None}
 use Rattle.can_model.specs.declared.database.Message.{Message}
 use Rattle.name_rules.specs.Identifier.{cut_short}
-use Rattle.gen_unit.specs.Header.{about, guard_of}
+use Rattle.gen_unit.specs.Header.{about}
 use Rattle.gen_unit.specs.HeaderMeaning.{number, in_brackets, macros_of}
 
 abbrev ping : Message

@@ -2,11 +2,11 @@
 use Rattle.std.specs.Prelude.{◌≡◌, ℕ, Bool, true, false, if◌then◌else◌, List, [], ◌∷◌, ◌++◌, map, codes, Ok}
 use Rattle.std.specs.List.{flat_map}
 use Rattle.can_model.specs.declared.database.Message.{Message}
-use Rattle.c_mean.specs.declared.token.TokenKind.{TokenKind}
-use Rattle.c_mean.specs.declared.token.TokenKind.TheVariants.{Constant as Number, Mark}
-use Rattle.c_mean.specs.declared.preprocessed.Preprocessed.{Preprocessed}
-use Rattle.c_mean.specs.Preprocessing.{preprocessed_texts}
-use Rattle.c_mean.specs.BarePreprocessing.{macro_kinds}
+use Rattle.c_text.specs.declared.token.TokenKind.{TokenKind}
+use Rattle.c_text.specs.declared.token.TokenKind.TheVariants.{Constant as Number, Mark}
+use Rattle.c_text.specs.declared.preprocessed.Preprocessed.{Preprocessed}
+use Rattle.c_text.specs.Preprocessing.{preprocessed_texts}
+use Rattle.c_text.specs.BarePreprocessing.{macro_kinds}
 use Rattle.gen_unit.specs.Header.{guard_of, prefix_of}
 
 -- a macro's name and the kinds of its body's tokens

@@ -9,6 +9,3 @@ mod parts;
 mod printing;
 
 pub use printing::header;
-
-#[cfg(test)]
-mod tests;

@@ -20,6 +20,3 @@ mod scaling;
 pub use limits::{Range, bounds};
 pub use number::{Decimal, NumberFault};
 pub use scaling::{ScaleTooWide, UnitScale, scale};
-
-#[cfg(test)]
-mod tests;

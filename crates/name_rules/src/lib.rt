@@ -8,6 +8,3 @@
 mod identifying;
 
 pub use identifying::identifier;
-
-#[cfg(test)]
-mod tests;

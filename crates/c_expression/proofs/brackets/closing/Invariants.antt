@@ -1,5 +1,5 @@
 use Rattle.std.proofs.Common.{◌≡◌, ◌+◌, ◌≤◌, drop}
-use Rattle.c_mean.specs.Brackets.{closing_from}
+use Rattle.c_tree.specs.Brackets.{closing_from}
 use Rattle.c_expression.proofs.brackets.closing.Given as goal
 
 abbrev pub invariant-loop-i : goal.invariant-loop-i

@@ -1,5 +1,5 @@
 use Rattle.std.proofs.Common.{◌≡◌, ◌≤◌, drop}
-use Rattle.c_mean.specs.Brackets as spec
+use Rattle.c_tree.specs.Brackets as spec
 use Rattle.c_expression.specs.Stop.{stops}
 use Rattle.c_expression.proofs.brackets.first_outside.Given as goal
 

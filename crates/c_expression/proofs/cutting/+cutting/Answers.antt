@@ -1,6 +1,6 @@
 use Rattle.std.proofs.Common.{◌≡◌, ◌+◌, drop, Some, sym, subst, ◌∙◌, arith, length-drop}
 use Rattle.std.proofs.lemmas.Result.{err_from_is_err_and}
-use Rattle.c_mean.specs.Operators as ops
+use Rattle.c_tree.specs.Operators as ops
 use Rattle.c_expression.specs.declared.prefixes.PrefixKind.TheVariants.{Sign}
 use Rattle.c_expression.specs.Operand.{IsFrontOf, IsBefore}
 use Rattle.c_expression.proofs.Growing.{front-is}

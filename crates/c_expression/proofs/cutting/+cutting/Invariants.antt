@@ -1,6 +1,6 @@
 use Rattle.std.proofs.Common.{◌≡◌, ◌+◌, ◌-◌, ◌*◌, ◌≤◌, length, Ok}
-use Rattle.c_mean.specs.Sequence.{◌>>=◌}
-use Rattle.c_mean.specs.ExpressionCut.{cut, cut_all, arguments}
+use Rattle.cg_out.specs.Words.{◌>>=◌}
+use Rattle.c_tree.specs.ExpressionCut.{expression_of, cut_all, arguments}
 use Rattle.c_expression.specs.Front.{with_front}
 use Rattle.c_expression.specs.Parts.{parts_left, count_left}
 use Rattle.c_expression.specs.Prefixes.{with_prefixes}
@@ -44,7 +44,7 @@ abbrev pub invariant-alone-loop-ops : goal.invariant-alone-loop-ops
 invariant-alone-loop-ops l = record {
   within : length l.left ≤ length l.tokens;
   jointless : IsJointless l.left;
-  told : cut l.room l.tokens l.after ≡ (cut l.room l.left l.after >>= λ e. Ok (with_prefixes l.ops.items e));
+  told : expression_of l.room l.tokens l.after ≡ (expression_of l.room l.left l.after >>= λ e. Ok (with_prefixes l.ops.items e));
 }
 
 abbrev pub decreases-alone-loop-ops : goal.decreases-alone-loop-ops
@@ -53,7 +53,7 @@ decreases-alone-loop-ops l = length l.left
 abbrev pub invariant-arguments-loop-left : goal.invariant-arguments-loop-left
 invariant-arguments-loop-left l = record {
   within : count_left l.left ≤ length l.tokens + 1;
-  rest : with_front l.args (cut_all cut l.room (parts_left l.after l.left)) ≡ arguments cut l.room l.tokens l.after;
+  rest : with_front l.args (cut_all expression_of l.room (parts_left l.after l.left)) ≡ arguments expression_of l.room l.tokens l.after;
 }
 
 abbrev pub decreases-arguments-loop-left : goal.decreases-arguments-loop-left

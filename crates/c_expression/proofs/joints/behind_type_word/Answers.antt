@@ -1,5 +1,5 @@
 use Rattle.std.proofs.Common.{ap, subst}
-use Rattle.c_mean.specs.ExpressionCut.{bracket}
+use Rattle.c_tree.specs.ExpressionCut.{bracket}
 use Rattle.c_expression.specs.Before.{IsFrom}
 use Rattle.c_expression.proofs.Growing.{kinds-next}
 use Rattle.c_expression.proofs.joints.behind_type_word.Goals as goal

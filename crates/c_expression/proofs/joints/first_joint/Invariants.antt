@@ -1,6 +1,6 @@
 use Rattle.std.proofs.Common.{◌≡◌, ◌≤◌, take}
-use Rattle.c_mean.specs.ExpressionCut.{start}
-use Rattle.c_mean.specs.ExpressionPart.{depth_over, before_over}
+use Rattle.c_tree.specs.ExpressionCut.{start}
+use Rattle.c_tree.specs.TokenRun.{depth_over, before_over}
 use Rattle.c_expression.specs.Before.{before_of, IsFrom}
 use Rattle.c_expression.specs.Joint.{IsJointless}
 use Rattle.c_expression.proofs.joints.first_joint.Given as goal

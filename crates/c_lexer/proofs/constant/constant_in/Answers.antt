@@ -1,5 +1,5 @@
 use Rattle.std.proofs.Common.{◌≡◌, Some, arith, sym, ◌∙◌, drop, ap}
-use Rattle.c_mean.specs.IntegerConstant.{Suffix, suffix_of}
+use Rattle.c_text.specs.IntegerConstant.{Suffix, suffix_of}
 use Rattle.c_lexer.specs.contracts.constant.Suffix.{the_view}
 use Rattle.c_lexer.proofs.Lengths.{take-take_while}
 use Rattle.c_lexer.proofs.ConstantParts.{front-digits, constant_in-read, constant_in-large}

@@ -1,11 +1,11 @@
 use Rattle.std.proofs.Common.{◌≡◌, Some, [], ◌∷◌, refl, sym, ap, ◌∙◌}
-use Rattle.c_mean.specs.IntegerConstant.{Suffix, suffix_of, most, constant_from}
+use Rattle.c_text.specs.IntegerConstant.{Suffix, suffix_of, value_limit, constant_from}
 use Rattle.c_lexer.specs.contracts.constant.Suffix.{the_view}
-use Rattle.c_lexer.proofs.ConstantParts.{constant}
+use Rattle.c_text.proofs.Constants.{constant}
 use Rattle.c_lexer.proofs.constant.constant_zero.Goals as goal
 
 zero-digit : (s : Suffix) → constant_from 10 (48 ∷ []) (Some s) ≡ Some (constant 0 10 s)
-unfolding most
+unfolding value_limit
 zero-digit s = refl
 
 pub returns : goal.returns

@@ -1,5 +1,5 @@
 use Rattle.std.proofs.Common.{◌≡◌, drop}
-use Rattle.c_mean.specs.Piece.{close_at}
+use Rattle.c_text.specs.Piece.{close_at}
 use Rattle.c_lexer.proofs.Lengths.{from_here}
 use Rattle.c_lexer.proofs.lexeme.close_at.Given as goal
 

@@ -1,5 +1,5 @@
 use Rattle.std.proofs.Common.{◌≡◌, ◌+◌, length, drop}
-use Rattle.c_mean.specs.Piece.{number_rest}
+use Rattle.c_text.specs.Piece.{number_rest}
 use Rattle.c_lexer.proofs.lexeme.number_length.Given as goal
 
 abbrev pub invariant-loop-i : goal.invariant-loop-i

@@ -1,6 +1,6 @@
 use Rattle.std.proofs.Common.{◌≡◌, ℕ, ◌+◌, List, ◌∷◌, take, length, refl, add-one, ap, sym, ◌∙◌, None, Some}
-use Rattle.c_mean.specs.IntegerConstant.{constant_of}
-use Rattle.c_mean.specs.Piece.{number_rest}
+use Rattle.c_text.specs.IntegerConstant.{constant_of}
+use Rattle.c_text.specs.Piece.{number_rest}
 use Rattle.c_lexer.proofs.Lengths.{take-number_rest}
 use Rattle.c_lexer.proofs.lexeme.read_number.Goals as goal
 

@@ -1,5 +1,5 @@
 use Rattle.std.proofs.Common.{◌≡◌, ℕ, ◌+◌, true, List, ◌∷◌, length, take, take_while, add-one, ap, sym, ◌∙◌}
-use Rattle.c_mean.specs.Characters.{is_letter, goes_on}
+use Rattle.c_text.specs.Characters.{is_letter, goes_on}
 use Rattle.c_lexer.proofs.Lengths.{take-take_while}
 use Rattle.c_lexer.proofs.lexeme.read_piece.Goals as goal
 

@@ -2,11 +2,11 @@ use Rattle.std.proofs.Common.{◌≡◌, ℕ, ◌+◌, ◌<◌, ◌≤◌, Bool,
 use Rattle.std.proofs.lemmas.Bool.Decides.{nat_tests}
 use Rattle.std.proofs.lemmas.List.{nil_from_length, length-take}
 use Rattle.std.proofs.lemmas.List.Sums.{count_by-le-length}
-use Rattle.c_mean.specs.Characters.{is_line_end}
-use Rattle.c_mean.specs.declared.token.Token.{Token}
-use Rattle.c_mean.specs.Piece.{Lexeme, token, line_end, space, bad, piece}
+use Rattle.c_text.specs.Characters.{is_line_end}
+use Rattle.c_text.specs.declared.token.Token.{Token}
+use Rattle.c_text.specs.Piece.{Lexeme, token, line_end, space, bad, piece}
 use Rattle.c_lexer.specs.Lexemes.{lexeme_of, reach_of}
-use Rattle.c_mean.specs.Tokens.{Placed, gathered, tokens}
+use Rattle.c_text.specs.Tokens.{Placed, gathered, tokens}
 use Rattle.c_lexer.proofs.Scan.{InFront, stands_at, all_onto, answer, answer-all, answer-splice, answer-bad, answer-step, pushed, reach-most}
 use Rattle.c_lexer.proofs.lexing.tokens.Goals as goal
 use Rattle.c_lexer.proofs.lexing.tokens.Goals.{in-Token+in_ok-push-in-Token, in-LineEnd, in-Space}

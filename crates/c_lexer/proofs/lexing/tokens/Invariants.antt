@@ -1,5 +1,5 @@
 use Rattle.std.proofs.Common.{◌≡◌, ◌+◌, ◌≤◌, length}
-use Rattle.c_mean.specs.Tokens.{tokens}
+use Rattle.c_text.specs.Tokens.{tokens}
 use Rattle.c_lexer.proofs.Scan.{answer}
 use Rattle.c_lexer.proofs.lexing.tokens.Given as goal
 

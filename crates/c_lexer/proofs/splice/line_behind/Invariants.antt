@@ -1,7 +1,7 @@
 use Rattle.std.proofs.Common.{◌≡◌, ◌+◌, ◌≤◌, take, drop}
 use Rattle.std.specs.Prelude.{count_by}
-use Rattle.c_mean.specs.Characters.{is_line_end}
-use Rattle.c_mean.specs.Splice.{first_splice}
+use Rattle.c_text.specs.Characters.{is_line_end}
+use Rattle.c_text.specs.Splice.{first_splice}
 use Rattle.c_lexer.proofs.splice.line_behind.Given as goal
 
 abbrev pub invariant-loop-i : goal.invariant-loop-i

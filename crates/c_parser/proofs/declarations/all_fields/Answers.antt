@@ -1,6 +1,6 @@
 use Rattle.std.proofs.Common.{◌+◌, ◌-◌, length, take, drop, Ok, arith, length-drop}
-use Rattle.c_mean.specs.Sequence.{all_read}
-use Rattle.c_mean.specs.Cut.{each_field}
+use Rattle.c_tree.specs.Sequence.{all_read}
+use Rattle.c_tree.specs.StructCut.{each_field}
 use Rattle.c_parser.proofs.Loops.{first_is, first_and_rest, goes_on}
 use Rattle.c_parser.proofs.declarations.all_fields.Goals as goal
 

@@ -1,6 +1,6 @@
 use Rattle.std.proofs.Common.{◌≡◌, ◌+◌, ◌≤◌, length, subst, arith}
-use Rattle.c_mean.specs.ExpressionCut.{parts}
-use Rattle.c_mean.specs.Cut.{each_parameter}
+use Rattle.c_tree.specs.ExpressionCut.{parts}
+use Rattle.c_tree.specs.ParameterCut.{each_parameter}
 use Rattle.c_expression.specs.Front.{with_front}
 use Rattle.c_expression.specs.Parts.{parts_left, count_left}
 use Rattle.c_parser.proofs.Loops.{next_parameter}

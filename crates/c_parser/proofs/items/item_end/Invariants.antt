@@ -1,5 +1,5 @@
 use Rattle.std.proofs.Common.{◌≡◌, ◌≤◌, drop}
-use Rattle.c_mean.specs.Cut as spec
+use Rattle.c_tree.specs.UnitCut as spec
 use Rattle.c_parser.proofs.items.item_end.Given as goal
 
 abbrev pub invariant-loop-i : goal.invariant-loop-i

@@ -1,6 +1,6 @@
 use Rattle.std.proofs.Common.{◌+◌, ◌-◌, length, take, drop, Ok, arith, length-drop}
-use Rattle.c_mean.specs.Sequence.{all_read}
-use Rattle.c_mean.specs.Cut.{each_item}
+use Rattle.c_tree.specs.Sequence.{all_read}
+use Rattle.c_tree.specs.UnitCut.{each_item}
 use Rattle.c_parser.proofs.Loops.{first_is, first_and_rest, goes_on}
 use Rattle.c_parser.proofs.items.items.Goals as goal
 

@@ -1,6 +1,6 @@
 use Rattle.std.proofs.Common.{◌≡◌, ◌≤◌, length}
-use Rattle.c_mean.specs.Sequence.{all_read}
-use Rattle.c_mean.specs.Cut.{each_item}
+use Rattle.c_tree.specs.Sequence.{all_read}
+use Rattle.c_tree.specs.UnitCut.{each_item}
 use Rattle.c_expression.specs.Front.{with_front}
 use Rattle.c_parser.proofs.items.items.Given as goal
 

@@ -1,5 +1,5 @@
 use Rattle.std.proofs.Common.{◌≡◌, ◌≤◌, drop}
-use Rattle.c_mean.specs.Brackets.{deep_from}
+use Rattle.c_tree.specs.Brackets.{deep_from}
 use Rattle.c_parser.proofs.matching.first_deep.Given as goal
 
 abbrev pub invariant-loop-at : goal.invariant-loop-at

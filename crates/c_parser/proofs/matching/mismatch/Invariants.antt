@@ -1,5 +1,5 @@
 use Rattle.std.proofs.Common.{◌≡◌, [], drop}
-use Rattle.c_mean.specs.Brackets.{mismatch, within}
+use Rattle.c_tree.specs.Brackets.{mismatch, within}
 use Rattle.c_parser.specs.Matching.{stack_of}
 use Rattle.c_parser.proofs.matching.mismatch.Given as goal
 

@@ -1,5 +1,5 @@
 use Rattle.std.proofs.Common.{◌+◌, Ok, subst, sym, ◌∙◌}
-use Rattle.c_mean.specs.Sequence.{◌>>=◌}
+use Rattle.cg_out.specs.Words.{◌>>=◌}
 use Rattle.c_parser.specs.Pending.{Joins, read_from, goes_on}
 use Rattle.c_parser.proofs.Waiting.{taken, resumed-last}
 use Rattle.c_parser.proofs.pending.ascend.Goals as goal

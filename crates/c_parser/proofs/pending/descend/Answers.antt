@@ -1,6 +1,6 @@
 use Rattle.std.proofs.Common.{◌≡◌, drop, length, subst, ap, ◌∙◌, arith, length-drop}
 use Rattle.std.proofs.lemmas.Result.{err_from_is_err_and}
-use Rattle.c_mean.specs.StatementCut.{read}
+use Rattle.c_tree.specs.StatementCut.{statement_of}
 use Rattle.c_parser.specs.Pending.{IsIf, around}
 use Rattle.c_parser.proofs.Waiting.{goes_down, head_fault}
 use Rattle.c_parser.proofs.pending.descend.Goals as goal
@@ -22,5 +22,5 @@ loop-place-preserved c =
       behind = omega (arith, c.loop-place.invariant.behind);
       within = omega (arith, ap length rest, ap length c.behind.ensures, length-drop 1 left, length-drop c.loop-place.at c.args.tokens.now, c.in-Some.ensures.rest.0, c.in_ok-condition.ensures.within, c.loop-place.invariant.within);
       same = λ may. rw c.in_ok-push.ensures.items (goes_down (around may c.args.room c.args.tokens.now c.args.after) c.loop-place.pending.items c.in-Some.place c.in_ok-condition.condition c.loop-place.at c.in_ok-condition.count ts
-          rest (is read may c.args.room c.args.after) (c.in_ok-condition.ensures.value read may) ∙ c.loop-place.invariant.same may);
+          rest (is statement_of may c.args.room c.args.after) (c.in_ok-condition.ensures.value statement_of may) ∙ c.loop-place.invariant.same may);
     }

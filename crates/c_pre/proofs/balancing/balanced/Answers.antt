@@ -1,5 +1,5 @@
 use Rattle.std.proofs.Common.{[], ◌++◌, map, drop, ap, sym, ◌∙◌, ◌+◌}
-use Rattle.c_mean.specs.Conditional as mean
+use Rattle.c_text.specs.Conditional as mean
 use Rattle.c_pre.specs.Shown.{shown}
 use Rattle.c_pre.specs.Balance.{endings, endings_behind}
 use Rattle.c_pre.proofs.Whole.{line-on, endings-step, shown-next}

@@ -1,5 +1,5 @@
 use Rattle.std.proofs.Common.{◌≡◌, [], ◌++◌, drop, map}
-use Rattle.c_mean.specs.Conditional as mean
+use Rattle.c_text.specs.Conditional as mean
 use Rattle.c_pre.specs.Shown.{shown}
 use Rattle.c_pre.specs.Balance.{endings}
 use Rattle.c_pre.proofs.balancing.balanced.Given as goal

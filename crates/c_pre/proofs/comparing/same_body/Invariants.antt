@@ -1,5 +1,5 @@
 use Rattle.std.proofs.Common.{◌≡◌, length, drop}
-use Rattle.c_mean.specs.MacroDefinition.{same_body}
+use Rattle.c_text.specs.MacroDefinition.{same_body}
 use Rattle.c_pre.specs.Shown.{flats}
 use Rattle.c_pre.proofs.comparing.same_body.Given as goal
 

@@ -1,7 +1,7 @@
 use Rattle.std.proofs.Common.{◌&&◌, codes, ap, sym, ◌∙◌}
 use Rattle.std.specs.Option.{option_copied}
 use Rattle.std.proofs.Math.Bool.{and-false}
-use Rattle.c_mean.specs.StandardHeader.{is_mark}
+use Rattle.c_text.specs.StandardHeader.{is_mark}
 use Rattle.c_pre.proofs.Cut.{text-told}
 use Rattle.c_pre.proofs.directive.line_of.Goals as goal
 use Rattle.c_pre.proofs.directive.line_of.Goals.{else-first-via-then-first+else-is_mark, else-first-via-else-first}

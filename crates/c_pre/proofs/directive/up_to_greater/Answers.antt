@@ -1,5 +1,5 @@
 use Rattle.std.proofs.Common.{codes, take, sym, ◌∙◌, ap}
-use Rattle.c_mean.specs.StandardHeader.{is_mark}
+use Rattle.c_text.specs.StandardHeader.{is_mark}
 use Rattle.c_pre.proofs.Angled.{greater-more}
 use Rattle.c_pre.proofs.directive.up_to_greater.Goals as goal
 

@@ -1,6 +1,6 @@
 use Rattle.std.proofs.Common.{◌≡◌, Some, take, drop}
-use Rattle.c_mean.specs.SeenToken.{seen_behind}
-use Rattle.c_mean.specs.Directive.{up_to_greater}
+use Rattle.c_text.specs.SeenToken.{seen_behind}
+use Rattle.c_text.specs.Directive.{up_to_greater}
 use Rattle.c_pre.proofs.Angled.{with_front}
 use Rattle.c_pre.proofs.directive.up_to_greater.Given as goal
 

@@ -1,21 +1,30 @@
-use Rattle.cli_tool.specs.World.{World, files_seen, sink_seen, world}
-use Rattle.cli_tool.proofs.Causes.{completes_each, refuses_each, answers_each}
+-- What must come, and what the header is, follow from how a run may end.
+use Rattle.cg_out.specs.Outside.{FilesSeen, SinkSeen}
+use Rattle.std.specs.declared.option.Option.{Option}
+use Rattle.std.specs.declared.option.Option.TheVariants.{None, Some}
+use Rattle.std.proofs.Common.{List, ℕ}
+use Rattle.cli_tool.specs.World.{World, world}
+use Rattle.cli_tool.specs.Command.{Command, generate_c_source, check, command_of}
+use Rattle.cli_tool.specs.TaskEnds.{TaskEnds}
+use Rattle.cli_tool.specs.Ends.{task_found, task_asked, HeaderOfCommand}
+use Rattle.cli_tool.specs.declared.status.Status.{Status}
+use Rattle.cli_tool.proofs.Comes.{comes}
+use Rattle.cli_tool.proofs.Headers.{header_stands}
 use Rattle.cli_tool.proofs.running.run.Goals as goal
 
-pub returns-clause-completes : goal.returns-clause-completes
-returns-clause-completes g c =
-    let old : World = world (files_seen (g.F.Files.content c.args.files.now) (g.F.Files.faults c.args.files.now) (g.F.Files.calls c.args.files.now)) (sink_seen (g.O.Sink.written c.args.out.now) (g.O.Sink.faults c.args.out.now) (g.O.Sink.calls c.args.out.now)) in
-    let new : World = world (files_seen (g.F.Files.content c.run_command.new.files) (g.F.Files.faults c.run_command.new.files) (g.F.Files.calls c.run_command.new.files)) (sink_seen (g.O.Sink.written c.run_command.new.out) (g.O.Sink.faults c.run_command.new.out) (g.O.Sink.calls c.run_command.new.out)) in
-    completes_each c.args.words.now old new c.run_command.result c.run_command.ensures.ends
+pub returns-clause-comes : goal.returns-clause-comes
+returns-clause-comes g c =
+    let old : World = world (g.F.Files.seen c.args.files.now) (g.O.Sink.seen c.args.out.now) in
+    let new : World = world (g.F.Files.seen c.run_command.new.files) (g.O.Sink.seen c.run_command.new.out) in
+    comes (task_asked c.args.words.now) old new c.run_command.result c.run_command.ensures.ends
 
-pub returns-clause-refuses : goal.returns-clause-refuses
-returns-clause-refuses g c =
-    let old : World = world (files_seen (g.F.Files.content c.args.files.now) (g.F.Files.faults c.args.files.now) (g.F.Files.calls c.args.files.now)) (sink_seen (g.O.Sink.written c.args.out.now) (g.O.Sink.faults c.args.out.now) (g.O.Sink.calls c.args.out.now)) in
-    let new : World = world (files_seen (g.F.Files.content c.run_command.new.files) (g.F.Files.faults c.run_command.new.files) (g.F.Files.calls c.run_command.new.files)) (sink_seen (g.O.Sink.written c.run_command.new.out) (g.O.Sink.faults c.run_command.new.out) (g.O.Sink.calls c.run_command.new.out)) in
-    refuses_each c.args.words.now old new c.run_command.result c.run_command.ensures.ends
+by_command : (command : Option Command) (old new : World) (status : Status) → TaskEnds (task_found command) old new status → HeaderOfCommand command old new status
+by_command None old new status e = tt
+by_command (Some (generate_c_source file)) old new status e = header_stands file old new status e
+by_command (Some (check header source)) old new status e = tt
 
-pub returns-clause-answers : goal.returns-clause-answers
-returns-clause-answers g c =
-    let old : World = world (files_seen (g.F.Files.content c.args.files.now) (g.F.Files.faults c.args.files.now) (g.F.Files.calls c.args.files.now)) (sink_seen (g.O.Sink.written c.args.out.now) (g.O.Sink.faults c.args.out.now) (g.O.Sink.calls c.args.out.now)) in
-    let new : World = world (files_seen (g.F.Files.content c.run_command.new.files) (g.F.Files.faults c.run_command.new.files) (g.F.Files.calls c.run_command.new.files)) (sink_seen (g.O.Sink.written c.run_command.new.out) (g.O.Sink.faults c.run_command.new.out) (g.O.Sink.calls c.run_command.new.out)) in
-    answers_each c.args.words.now old new c.run_command.result c.run_command.ensures.ends
+pub returns-clause-header : goal.returns-clause-header
+returns-clause-header g c =
+    let old : World = world (g.F.Files.seen c.args.files.now) (g.O.Sink.seen c.args.out.now) in
+    let new : World = world (g.F.Files.seen c.run_command.new.files) (g.O.Sink.seen c.run_command.new.out) in
+    by_command (command_of c.args.words.now) old new c.run_command.result c.run_command.ensures.ends

@@ -1,7 +1,7 @@
 use Rattle.std.proofs.Common.{◌≡◌, map, ap, ◌∙◌, rules}
 use Rattle.std.specs.Map.Iter.{deref_pair}
 use Rattle.std.proofs.lemmas.Map.Iter.{iter_end}
-use Rattle.c_mean.specs.Preprocessing.{macro_of}
+use Rattle.c_text.specs.Preprocessing.{macro_of}
 use Rattle.c_pre.proofs.Tables.{entry_macro, entries-macros}
 use Rattle.c_pre.proofs.macros.Macros.list.Goals as goal
 

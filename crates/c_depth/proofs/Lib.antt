@@ -1,0 +1,20 @@
+mod Tests
+mod Keeps
+mod Depth
+mod Split
+mod Flat
+mod Inside
+mod Operator
+mod Commas
+mod Expressions
+mod CaseValues
+mod Sequences
+mod Forms
+mod SimpleStatements
+mod Labels
+mod Statements
+mod Declarations
+mod Ends
+mod Items
+mod Faults
+pub mod Laws

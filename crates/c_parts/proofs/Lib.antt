@@ -1,0 +1,3 @@
+pub mod ExpressionParts
+pub mod StatementParts
+pub mod BareTrees

@@ -1,0 +1,3 @@
+-- How what was read makes up larger trees.
+pub mod ExpressionPart
+pub mod StatementPart

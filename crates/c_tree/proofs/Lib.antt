@@ -1,0 +1,5 @@
+pub mod ExpressionSteps
+pub mod ExpressionTokens
+pub mod CaseSteps
+pub mod StatementSteps
+mod CutRows

@@ -1,0 +1,140 @@
+-- What `generate_c_source` leaves in the files is a header of the text's database.
+use Rattle.std.proofs.Common.{◌≡◌, ◌⊎◌, inl, inr, ℕ, Bool, true, false, cond, List, [], ◌∷◌, ◌++◌, Result, Ok, Err, refl, sym, ap, subst, ◌∙◌}
+use Rattle.std.specs.Prelude.{IfSome, IsSomeAnd}
+use Rattle.std.specs.declared.option.Option.{Option}
+use Rattle.std.specs.declared.option.Option.TheVariants.{None, Some}
+use Rattle.std.specs.FinMap.{get, insert}
+use Rattle.can_model.specs.Refusal.{Refusal}
+use Rattle.can_model.specs.declared.database.Database.{Database}
+use Rattle.gen_unit.specs.Header.{header_text}
+use Rattle.gen_unit.specs.HeaderMeaning.{DeclaresConstants}
+use Rattle.cg_out.specs.Outside.{Folder, FilesSeen, IfTold, IsTornWrite}
+use Rattle.cli_tool.specs.FileName.{database_name, header_path}
+use Rattle.cli_tool.specs.HeaderInFile.{database_in, header_of_database, header_in}
+use Rattle.cli_tool.specs.HeaderOfFile.{IsHeaderOf, OfHeader, HeaderStands}
+use Rattle.cli_tool.specs.World.{World}
+use Rattle.cli_tool.specs.Report.{too_large_report}
+use Rattle.cli_tool.specs.Task.{Output, Answer, wrong_words, refused, outcome, outputs_of, status_of, are_within, answer_of}
+use Rattle.cli_tool.specs.GenerateTask.{header_output, header_answer, database_input, generate_task}
+use Rattle.cli_tool.specs.Writing.{with_outputs, Puts, TearsFiles}
+use Rattle.cli_tool.specs.TaskEnds.{TaskEnds}
+use Rattle.cli_tool.specs.declared.status.Status.{Status}
+use Rattle.cli_tool.specs.declared.status.Status.TheVariants.{Done, Negative, Usage, Refused, FileFault, OutFault, NoMemory}
+use Rattle.cli_tool.proofs.Texts.{IsSomeAnd-weaker}
+use Rattle.cli_tool.proofs.DatabaseMeaning.{database-stands, database-declares}
+
+-- the database of a header that was made
+header_in-Ok : (file : List ℕ) (given : Result Database Refusal) (header : List ℕ) → header_of_database file given ≡ Ok header → (db : Database) × (given ≡ Ok db) × (header ≡ header_text (database_name file) db.messages)
+header_in-Ok file (Ok db) header e = (db, refl, cc)
+header_in-Ok file (Err r) header e = absurd cc
+
+is_header : (file text header : List ℕ) → header_in file text ≡ Ok header → IsHeaderOf file text header
+is_header file text header e =
+    let d = header_in-Ok file (database_in file text) header e in
+    record {
+      db = d.0;
+      database_is = d.1;
+      statements = database-stands file text d.0 d.1;
+      bytes = d.2;
+      meaning = subst (λ (x : List ℕ). DeclaresConstants (database_name file) d.0.messages x) (sym d.2) (database-declares file text d.0 d.1);
+    }
+
+-- a text is refused and nothing is written, or its header is
+abbrev WritesHeader : List ℕ → List ℕ → Answer → Type 0
+WritesHeader file text answer = (header : List ℕ) × IsHeaderOf file text header × (outputs_of answer ≡ header_output file header ∷ [])
+
+abbrev WritesNothing : Answer → Type 0
+WritesNothing answer = (outputs_of answer ≡ []) × (status_of answer ≡ Refused)
+
+abbrev MayWrite : List ℕ → List ℕ → Answer → Type 0
+MayWrite file text answer = WritesNothing answer ⊎ WritesHeader file text answer
+
+may_write : (file text : List ℕ) (answer : Answer) → answer_of (generate_task file) (text ∷ []) ≡ answer → MayWrite file text answer
+may_write file text answer e = subst (λ (a : Answer). MayWrite file text a) e (by_size (are_within (database_input file ∷ []) (text ∷ []))) where
+  by_header : (given : Result (List ℕ) Refusal) → header_in file text ≡ given → MayWrite file text (header_answer file given)
+  by_header (Ok header) h = inr (header, is_header file text header h, refl)
+  by_header (Err refusal) h = inl (refl, refl)
+
+  by_size : (b : Bool) → MayWrite file text (cond b (header_answer file (header_in file text)) (refused too_large_report))
+  by_size true = by_header (header_in file text) refl
+  by_size false = inl (refl, refl)
+
+-- where the text is told, this is its answer
+abbrev OfAnswer : List ℕ → Answer → Option Folder → Type 0
+OfAnswer file answer content = IfSome content (λ folder. IsSomeAnd (get folder file) (λ text. answer_of (generate_task file) (text ∷ []) ≡ answer))
+
+-- where the contents are told, the text has a header of which this is so
+abbrev OfHeaderAt : List ℕ → Option Folder → Option Folder → (List ℕ → Folder → Folder → Type 0) → Type 0
+OfHeaderAt file old new P = IfTold old new (λ a b. IsSomeAnd (get a file) (λ text. (header : List ℕ) × IsHeaderOf file text header × P header a b))
+
+module _ (file : List ℕ) (answer : Answer) where
+  abbrev PutsHeader : List ℕ → Folder → Folder → Type 0
+  PutsHeader header a b = b ≡ insert a (header_path file) header
+
+  abbrev TearsHeader : List ℕ → Folder → Folder → Type 0
+  TearsHeader header a b = IsTornWrite a b (header_path file) header
+
+  -- ---- whole headers
+
+  no_more : (b : Folder) (os : List Output) → Puts os None (Some b) → ⊥
+  no_more b [] e = absurd cc
+  no_more b (o ∷ os) e = e
+
+  put : (text : List ℕ) (a b : Folder) → Puts (outputs_of answer) (Some a) (Some b) → WritesHeader file text answer → (header : List ℕ) × IsHeaderOf file text header × PutsHeader header a b
+  put text a b p w = (w.0, w.1, subst (λ (os : List Output). Puts os (Some a) (Some b)) w.2 p)
+
+  may_put : (old new : Option Folder) → OfAnswer file answer old → Puts (outputs_of answer) old new → ((new ≡ old) × (status_of answer ≡ Refused)) ⊎ OfHeaderAt file old new PutsHeader
+  may_put old None h p = inr tt
+  may_put None (Some b) h p = absurd (no_more b (outputs_of answer) p)
+  may_put (Some a) (Some b) h p = by_text (get a file) h where
+    by_text : (o : Option (List ℕ)) → IsSomeAnd o (λ text. answer_of (generate_task file) (text ∷ []) ≡ answer)
+        → (◌≡◌ {A = Option Folder} (Some b) (Some a) × (status_of answer ≡ Refused)) ⊎ IsSomeAnd o (λ text. (header : List ℕ) × IsHeaderOf file text header × PutsHeader header a b)
+    by_text None e = absurd e
+    by_text (Some text) e = by_write (may_write file text answer e) where
+      by_write : MayWrite file text answer → (◌≡◌ {A = Option Folder} (Some b) (Some a) × (status_of answer ≡ Refused)) ⊎ ((header : List ℕ) × IsHeaderOf file text header × PutsHeader header a b)
+      by_write (inl none) = inl (subst (λ (os : List Output). Puts os (Some a) (Some b)) none.0 p, none.1)
+      by_write (inr w) = inr (put text a b p w)
+
+  -- ---- torn headers
+
+  none_torn : (front : List Output) (torn : Output) (rest : List Output) → [] ≡ front ++ torn ∷ rest → ⊥
+  none_torn [] torn rest e = absurd cc
+  none_torn (y ∷ front) torn rest e = absurd cc
+
+  the_one : (front : List Output) (torn : Output) (rest : List Output) (o : Output) (a b : Folder) → o ∷ [] ≡ front ++ torn ∷ rest → IsTornWrite (with_outputs a front) b torn.file torn.bytes
+      → IsTornWrite a b o.file o.bytes
+  the_one [] torn rest o a b e t = let same : torn ≡ o = cc in subst (λ (x : Output). IsTornWrite a b x.file x.bytes) same t
+  the_one (x ∷ front) torn rest o a b e t = absurd (none_torn front torn rest (λ k. tail (e k))) where
+    tail : List Output → List Output
+    tail [] = []
+    tail (y ∷ ys) = ys
+
+  may_tear : (front : List Output) (torn : Output) (rest : List Output) (old new : Option Folder) → outputs_of answer ≡ front ++ torn ∷ rest → OfAnswer file answer old
+      → IfTold old new (λ a b. IsTornWrite (with_outputs a front) b torn.file torn.bytes) → OfHeaderAt file old new TearsHeader
+  may_tear front torn rest old None e h p = tt
+  may_tear front torn rest None (Some b) e h p = absurd p
+  may_tear front torn rest (Some a) (Some b) e h p =
+      IsSomeAnd-weaker (get a file) (λ text. answer_of (generate_task file) (text ∷ []) ≡ answer) (λ text. (header : List ℕ) × IsHeaderOf file text header × TearsHeader header a b)
+      (λ text g. by_write text (may_write file text answer g)) h where
+        by_write : (text : List ℕ) → MayWrite file text answer → (header : List ℕ) × IsHeaderOf file text header × TearsHeader header a b
+        by_write text (inl none) = absurd (none_torn front torn rest (sym none.0 ∙ e))
+        by_write text (inr w) = (w.0, w.1, the_one front torn rest (header_output file w.0) a b (sym w.2 ∙ e) p)
+
+pub header_stands : (file : List ℕ) (old new : World) (status : Status) → TaskEnds (generate_task file) old new status → HeaderStands file old.files new.files status
+header_stands file old new Done (answer, e, l, r) = by_put (may_put file answer old.files.content new.files.content l.found.whole l.written.content) where
+  by_put : ((new.files.content ≡ old.files.content) × (status_of answer ≡ Refused)) ⊎ OfHeader file old.files new.files (PutsHeader file answer) → OfHeader file old.files new.files (PutsHeader file answer)
+  by_put (inl none) = let never : Done ≡ Refused = sym e ∙ none.1 in absurd cc
+  by_put (inr w) = w
+header_stands file old new FileFault (inl f, x) = inl f.failed.content
+header_stands file old new FileFault (inr w, x) =
+    let t = w.2 in
+    inr (may_tear file w.0 t.front t.torn t.rest old.files.content new.files.content t.outputs_are w.1.whole t.content)
+header_stands file old new OutFault (answer, l, t) = by_put (may_put file answer old.files.content new.files.content l.found.whole l.written.content) where
+  by_put : ((new.files.content ≡ old.files.content) × (status_of answer ≡ Refused)) ⊎ OfHeader file old.files new.files (PutsHeader file answer)
+      → (new.files.content ≡ old.files.content) ⊎ OfHeader file old.files new.files (PutsHeader file answer)
+  by_put (inl none) = inl none.0
+  by_put (inr w) = inr w
+header_stands file old new Negative x = tt
+header_stands file old new Usage x = tt
+header_stands file old new Refused x = tt
+header_stands file old new NoMemory x = tt

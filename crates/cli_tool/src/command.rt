@@ -1,0 +1,63 @@
+//! The commands: what each reads, and what the texts give.
+ghost use Rattle.std.specs.Prelude.{◌≡◌, ◌<◌, true, slice_get, length, IfOk};
+ghost use Rattle.cli_tool.specs.Task.{are_within};
+ghost use Rattle.cli_tool.specs.Asked.{task_by, answer_in};
+
+use crate::answer::Answer;
+use crate::checking::checked;
+use crate::generating::generated;
+use crate::reading::{FileText, Input};
+use c_lexer::SOURCE_LIMIT;
+use can_model::TEXT_LIMIT;
+use cg_out::Memory;
+use std::alloc::Global;
+
+/// What the words ask for.
+#[derive(Clone, Copy)]
+pub enum Command<'a> {
+    /// Write the C header of the database in this file.
+    GenerateCSource(&'a [u8]),
+    /// Tell the first fault of this header and this source, if they have one.
+    Check(&'a [u8], &'a [u8]),
+}
+
+impl<'a> Command<'a> {
+    /// The file that is read behind so many others; takes no memory.
+    pub fn input(&self, index: usize) -> Option<Input<'a>>
+        ensures { result ≡ slice_get (task_by self.now).inputs index }
+    {
+        match (*self, index) {
+            (Command::GenerateCSource(file), 0) => Some(Input {
+                file,
+                limit: TEXT_LIMIT,
+            }),
+            (Command::Check(header, _), 0) => Some(Input {
+                file: header,
+                limit: SOURCE_LIMIT,
+            }),
+            (Command::Check(_, source), 1) => Some(Input {
+                file: source,
+                limit: SOURCE_LIMIT,
+            }),
+            _ => None,
+        }
+    }
+
+    /// What texts give that have no more bytes than they may.
+    pub fn answer(&self, alloc: Global, texts: &[FileText]) -> Result<Answer<'a>, Memory>
+        requires { are_within (task_by self.now).inputs texts.now ≡ true }
+        ensures { IfOk result (λ a. answer_in a ≡ (task_by self.now).work texts.now) }
+    {
+        match (*self, texts) {
+            (Command::GenerateCSource(file), [text]) => generated(alloc, file, text.bytes()),
+            (Command::Check(header, source), [header_text, source_text]) => checked(
+                alloc,
+                header,
+                source,
+                header_text.bytes(),
+                source_text.bytes(),
+            ),
+            _ => Ok(Answer::WrongWords),
+        }
+    }
+}

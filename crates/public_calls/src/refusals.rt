@@ -1,0 +1,70 @@
+//! `can_model` and `c_mean`: numbers and names of refusals, and the words and marks of C.
+use c_mean::{CKind, Keyword, Punctuator};
+use can_model::TextKind;
+
+#[test]
+fn kinds_of_a_database(rt: HostRuntime) {
+    for (kind, number, name) in [
+        (TextKind::BadByte, 1, "BadByte"),
+        (TextKind::OpenString, 2, "OpenString"),
+        (TextKind::BadNumber, 3, "BadNumber"),
+        (TextKind::Unexpected, 4, "Unexpected"),
+        (TextKind::TooLarge, 5, "TooLarge"),
+        (TextKind::LateSignal, 6, "LateSignal"),
+        (TextKind::FormatVersion, 7, "FormatVersion"),
+        (TextKind::UnknownName, 8, "UnknownName"),
+        (TextKind::SignalType, 9, "SignalType"),
+        (TextKind::NotYet, 25, "NotYet"),
+    ] {
+        assert_eq!(rt; kind.number(), number, "of {name}");
+        assert_eq!(rt; kind.name(), name);
+    }
+}
+
+#[test]
+fn kinds_of_tokens_and_directives(rt: HostRuntime) {
+    for (kind, number, name) in [
+        (CKind::BadToken, 40, "BadToken"),
+        (CKind::Splice, 41, "Splice"),
+        (CKind::OpenComment, 42, "OpenComment"),
+        (CKind::BadDirective, 43, "BadDirective"),
+        (CKind::UnknownHeader, 44, "UnknownHeader"),
+        (CKind::MacroBody, 45, "MacroBody"),
+        (CKind::Redefined, 46, "Redefined"),
+        (CKind::Unbalanced, 47, "Unbalanced"),
+    ] {
+        assert_eq!(rt; kind.number(), number, "of {name}");
+        assert_eq!(rt; kind.name(), name);
+    }
+}
+
+#[test]
+fn kinds_of_trees(rt: HostRuntime) {
+    for (kind, number, name) in [
+        (CKind::Syntax, 48, "Syntax"),
+        (CKind::TooDeep, 49, "TooDeep"),
+        (CKind::UnknownName, 50, "UnknownName"),
+        (CKind::TypeMismatch, 51, "TypeMismatch"),
+        (CKind::ConstWrite, 52, "ConstWrite"),
+        (CKind::Redeclared, 53, "Redeclared"),
+        (CKind::ImpureCall, 54, "ImpureCall"),
+        (CKind::DeepCall, 55, "DeepCall"),
+        (CKind::DuplicateCase, 56, "DuplicateCase"),
+        (CKind::ReservedName, 57, "ReservedName"),
+    ] {
+        assert_eq!(rt; kind.number(), number, "of {name}");
+        assert_eq!(rt; kind.name(), name);
+    }
+    let told = TextKind::BadNumber.message();
+    assert_eq!(rt; told, "this number does not fit here");
+    let told = CKind::Syntax.message();
+    assert_eq!(rt; told, "no form of C that is read fits here");
+}
+
+#[test]
+fn words_and_marks(rt: HostRuntime) {
+    assert_eq!(rt; Keyword::of(b"int"), Some(Keyword::Int));
+    assert_eq!(rt; Keyword::of(b"Int"), None);
+    assert_eq!(rt; Punctuator::of(b"->"), Some(Punctuator::Arrow));
+    assert_eq!(rt; Punctuator::of(b"?"), None);
+}
