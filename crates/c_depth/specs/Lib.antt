@@ -1,1 +1,2 @@
+-- What the promises rest on.
 pub mod Shallow

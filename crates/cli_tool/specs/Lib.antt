@@ -1,3 +1,4 @@
+-- What the promises rest on.
 pub mod FileName
 pub mod Report
 pub mod Status
@@ -14,4 +15,5 @@ pub mod Command
 pub mod GenerateTask
 pub mod CheckTask
 pub mod Ends
+-- What the functions inside promise each other.
 pub mod Asked
