@@ -1,0 +1,11 @@
+use Rattle.std.proofs.Common.{[], ◌∷◌, ◌++◌, ap, ◌∙◌, map}
+use Rattle.c_types.specs.Entries.{named}
+use Rattle.cg_out.specs.Words.{look_up}
+use Rattle.c_types.proofs.Tables.{insert-new}
+use Rattle.c_types.proofs.table.Table.put.Goals as goal
+
+pub returns : goal.returns
+returns g c =
+    ap (map named) c.in_ok-insert.ensures.entries
+    ∙ insert-new c.args.name c.args.value c.self.inside.entries.entries (ap (look_up c.args.name.now) c.self.view_is ∙ c.requires)
+    ∙ ap (λ ms. ms ++ (c.args.name.now, c.args.value) ∷ []) c.self.view_is

@@ -1,0 +1,50 @@
+//! Values by names.
+ghost use Rattle.std.specs.Prelude.{◌≡◌, ◌∷◌, ◌++◌, [], None, OnOk};
+ghost use Rattle.cg_out.specs.Words.{look_up};
+ghost use Rattle.c_types.specs.Entries.{lent};
+
+use cg_out::Memory;
+use indexmap::IndexMap;
+use std::alloc::Global;
+use std::marker::Model;
+
+/// Names with a value each, in the order in which they came.
+#[derive(Drop)]
+pub struct Table<'a, V> {
+    entries: IndexMap<&'a [u8], V>,
+}
+
+impl<'a, V> Model for Table<'a, V> {
+    ghost use Rattle.std.specs.Prelude.{ℕ, List, map};
+    ghost use Rattle.c_types.specs.Entries.{named};
+
+    ghost Value = { List (List ℕ × V) };
+
+    ghost view = { λ t. map named t.entries.entries };
+}
+
+impl<'a, V: Drop> Table<'a, V> {
+    pub fn new(alloc: Global) -> Table<'a, V>
+        ensures { result ≡ [] }
+    {
+        Table {
+            entries: IndexMap::new(alloc),
+        }
+    }
+
+    /// The value of a name.
+    pub fn get(&self, name: &[u8]) -> Option<&V>
+        ensures { lent result ≡ look_up name.now self.now }
+    {
+        self.entries.get(name)
+    }
+
+    /// Gives a name that has no value one.
+    pub fn put(&mut self, name: &'a [u8], value: V) -> Result<(), Memory>
+        requires { look_up name.now self.old ≡ None }
+        ensures { OnOk result (self.new ≡ self.old ++ (name.now, value) ∷ []) }
+    {
+        self.entries.insert(name, value)?;
+        Ok(())
+    }
+}
