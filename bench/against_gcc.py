@@ -1,10 +1,12 @@
 #!/usr/bin/env python3
 """Asks gcc of the C texts that `cantoolc check` accepts.
 
-Makes functions of the subset at random, damages most of them by a token or two, and checks each. gcc
-must parse every text that is ok, names and types aside; one thing is known and left out: `check` takes a
-declaration as a branch of an `if`, and C99 does not. Prints the texts on which the two differ and how
-many were ok, and ends with 1 where there is one. Build the program first (./run). It wants gcc.
+Makes functions of the subset at random, damages most of them by a token or two, and checks each. gcc with
+-std=c99 -pedantic-errors must take every text that is ok, under -m32 and under -m64. What is known is left
+out: `check` takes a declaration as a branch of an `if`, and one or nothing behind a label, and C99 does not.
+Prints the texts on which the two differ and how many were ok, and ends with 1 where there is one. Build the
+program first (./run). It wants gcc, which needs no headers of another machine, since the C library's one is
+written beside the text.
 
     against_gcc.py [TEXTS [SEED]]
 """
@@ -22,22 +24,20 @@ FRONT = """#include <stdbool.h>
 #include <stdint.h>
 #include <string.h>
 struct s { int a; uint8_t b; };
+static int g(int a, uint8_t b) { return a - b; }
 """
+STRING_H = "#include <stddef.h>\nvoid *memset(void *s, int c, size_t n);\n"
 TYPES = ["int", "unsigned char", "unsigned", "long", "unsigned long long", "uint8_t", "int16_t", "bool", "size_t", "signed char"]
-OPERANDS = ["v", "w", "p->a", "p->b", "q[0]", "1", "2u", "0x1fUL", "3ll", "NULL"]
+OPERANDS = ["v", "w", "p->a", "p->b", "q[0]", "1", "2u", "0x1fUL", "3ll", "4294967295", "0xffffffffffffffff"]
 BINARY = ["||", "&&", "|", "^", "&", "==", "!=", "<", ">", "<=", ">=", "<<", ">>", "+", "-"]
 ASSIGN = ["=", "|=", "&=", "^=", "+=", "-=", "<<=", ">>="]
-DAMAGE = "( ) { } [ ] ; , : -> = - ! ~ << * v 1 int uint8_t void const static struct if else switch case default break return".split()
+DAMAGE = "( ) { } [ ] ; , : -> = - ! ~ << * v p q g 1 NULL int uint8_t void const static struct if else switch case default break return".split()
 WORDS_OF_TYPES = {word for spelling in TYPES for word in spelling.split()} | {"_Bool"}
-# gcc's words for a text that is no C, whatever its names mean
-NO_C = ("expected", "before", "stray")
+MODELS = ("-m32", "-m64")
 
 
 def arguments(rng, depth):
-    words = []
-    for i in range(rng.randint(0, 3)):
-        words += ([","] if i else []) + expression(rng, depth)
-    return words
+    return expression(rng, depth) + [","] + expression(rng, depth)
 
 
 def expression(rng, depth):
@@ -53,6 +53,7 @@ def expression(rng, depth):
             lambda: ["("] + inner + [")"],
             lambda: ["q", "["] + inner + ["]"],
             lambda: ["g", "("] + arguments(rng, depth - 1) + [")"],
+            lambda: [rng.choice("pq"), rng.choice(["==", "!="]), "NULL"],
         ]
     )()
 
@@ -60,7 +61,7 @@ def expression(rng, depth):
 def simple(rng, may_break):
     forms = [
         lambda: [rng.choice(["v", "q[1]", "p->a"]), rng.choice(ASSIGN)] + expression(rng, 2),
-        lambda: ["return"] + rng.choice([[], expression(rng, 2)]),
+        lambda: ["return"] + expression(rng, 2),
         lambda: [],
         lambda: ["g", "("] + arguments(rng, 1) + [")"],
         lambda: ["(", "void", ")", "v"],
@@ -100,7 +101,7 @@ def statements(rng, depth, may_break):
 def parts(rng, depth):
     words = []
     for _ in range(rng.randint(0, 3)):
-        words += rng.choice([["default"], ["case", rng.choice(["1", "-1", "(2)", "- + 3", "-(4u)"])]]) + [":"]
+        words += rng.choice([["default"], ["case", rng.choice(["1", "-1", "(2)", "- + 3", "-(4u)", "0xffffffff", "4294967297"])]]) + [":"]
         for _ in range(rng.randint(0, 2)):
             words += statement(rng, depth, True)
     return words
@@ -121,11 +122,17 @@ def is_branch(text, line):
     return word in WORDS_OF_TYPES and text[: column - 1].rstrip().endswith((")", "else"))
 
 
-def shown_by_gcc(gcc, folder, text):
+def is_known(text, line):
+    """Whether gcc's error is one of those that are left out."""
+    return "label" in line or ("before " in line and is_branch(text, line))
+
+
+def shown_by_gcc(gcc, option, folder, text):
     """What shows gcc that the last line of the text is no C, but for what is known."""
-    run = subprocess.run([gcc, "-std=c99", "-fsyntax-only", "-w", "s.c"], cwd=folder, capture_output=True, text=True, check=False)
-    errors = [line for line in run.stderr.splitlines() if "error:" in line and any(word in line for word in NO_C)]
-    return [line for line in errors if not is_branch(text, line)]
+    words = [gcc, option, "-std=c99", "-pedantic-errors", "-ffreestanding", "-isystem", ".", "-fsyntax-only", "-w", "s.c"]
+    run = subprocess.run(words, cwd=folder, capture_output=True, text=True, check=False)
+    errors = [line for line in run.stderr.splitlines() if "error:" in line]
+    return [option + line for line in errors if not is_known(text, line)]
 
 
 def main():
@@ -134,16 +141,18 @@ def main():
         sys.exit("it wants gcc, and the program: ./run generate_c_source examples/can.dbc")
     texts, seed = (int(word) for word in (sys.argv[1:] + ["2000", "1"][len(sys.argv) - 1 :]))
     rng = random.Random(seed)
-    head = "int f ( int v , struct s * p , uint8_t * q ) {".split()
+    head = "int f ( int v , long w , struct s * p , uint8_t * q ) {".split()
     accepted, differ = 0, 0
     with tempfile.TemporaryDirectory() as folder:
-        open(os.path.join(folder, "h.h"), "w", encoding="ascii").close()
+        for name, content in (("h.h", ""), ("string.h", STRING_H)):
+            with open(os.path.join(folder, name), "w", encoding="ascii") as f:
+                f.write(content)
         for _ in range(texts):
             text = " ".join(damaged(rng, head + statements(rng, 3, False) + ["}"]))
             with open(os.path.join(folder, "s.c"), "w", encoding="ascii") as f:
                 f.write(FRONT + text + "\n")
-            status = subprocess.run([PROGRAM, "check", "h.h", "s.c"], cwd=folder, stdout=subprocess.DEVNULL, check=False).returncode
-            errors = shown_by_gcc(gcc, folder, text) if status == 0 else []
+            status = subprocess.run([PROGRAM, "check", "h.h", "s.c"], cwd=folder, stdout=subprocess.DEVNULL, stderr=subprocess.DEVNULL, check=False).returncode
+            errors = [line for option in MODELS for line in shown_by_gcc(gcc, option, folder, text)] if status == 0 else []
             accepted += status == 0
             if errors or status not in (0, 3):
                 differ += 1

@@ -3,8 +3,11 @@
 
 Prints of each pair the bytes of both texts, the seconds of a processor (the best of three) and the
 peak memory of each program, and how fast the time of `check` grows with the text: an exponent of 1
-is linear. Then the same of texts with a fault at the end of one long call, without gcc. Build the
-program first (./run). Where there is no gcc, its columns stay empty.
+is linear. Then the same of texts with a fault at the end of one long call, and of texts of one shape (many
+functions, fields, locals, labels, calls), at an eighth and whole, without gcc. Build the program first
+(./run). Where there is no gcc, its columns stay empty.
+
+    check.py [BYTES]      the larger pair has so many bytes, 8,000,000 if none are given
 """
 import os
 import shutil
@@ -77,10 +80,10 @@ def write_damaged(folder, arguments):
     return os.path.getsize(path)
 
 
-def whole_pairs():
+def whole_pairs(larger):
     """Of pairs without a fault: the bytes and the time, printed beside gcc's."""
     gcc = shutil.which("gcc")
-    for limit in (1_000_000, 8_000_000):
+    for limit in (1_000_000, larger):
         with tempfile.TemporaryDirectory() as folder:
             size = write_pair(folder, limit)
             ours = measure([PROGRAM, "check", "bench.h", "bench.c"], folder, RUNS)
@@ -102,12 +105,36 @@ def damaged_pairs():
         yield size, ours.used
 
 
+SHAPES = {
+    "functions": (100_000, lambda n: "".join(f"int f{i}(int a) {{ return a; }}\n" for i in range(n))),
+    "fields of a struct": (30_000, lambda n: "struct s {\n" + "".join(f"int a{i};\n" for i in range(n)) + "};\nint f(struct s *p) { return p->a0; }\n"),
+    "locals of a function": (50_000, lambda n: "void f(void) {\n" + "".join(f"int a{i} = 1;\n" for i in range(n)) + "}\n"),
+    "labels of a switch": (65_536, lambda n: "void f(int v) { switch (v) {\n" + "".join(f"case {i}: break;\n" for i in range(n)) + "} }\n"),
+    "calls of a function": (20_000, lambda n: "int g(int a) { return a; }\nvoid f(void) {\n" + "g(1);\n" * n + "}\n"),
+}
+
+
+def shape(name):
+    """Of texts of this shape: the bytes and the time."""
+    whole, text = SHAPES[name]
+    for count in (whole // 8, whole):
+        with tempfile.TemporaryDirectory() as folder:
+            for file, content in (("bench.h", ""), ("bench.c", text(count))):
+                with open(os.path.join(folder, file), "w", encoding="ascii") as f:
+                    f.write(content)
+            size = os.path.getsize(os.path.join(folder, "bench.c"))
+            ours = measure([PROGRAM, "check", "bench.h", "bench.c"], folder, RUNS)
+        print(f"{size:>10} {ours.used:>10.3f} {ours.peak / 1e6:>10.1f}   {count} {name}")
+        yield size, ours.used
+
+
 def main():
     if not os.path.exists(PROGRAM):
         sys.exit("build the program first: ./run generate_c_source examples/can.dbc")
     print(f"{'bytes':>10} {'check s':>10} {'check MB':>10} {'gcc s':>10} {'gcc MB':>10}")
-    for pairs in (whole_pairs, damaged_pairs):
-        (small, quick), (large, slow) = pairs()
+    larger = int(sys.argv[1]) if len(sys.argv) > 1 else 8_000_000
+    for pairs in (whole_pairs(larger), damaged_pairs(), *map(shape, SHAPES)):
+        (small, quick), (large, slow) = pairs
         print(f"exponent of time: {exponent(small, quick, large, slow):.2f}")
 
 

@@ -1,4 +1,4 @@
--- The unit of a header and a source, or their first fault by stages: tokens of the header, tokens of the source, preprocessing, cutting.
+-- The unit of a header and a source, or their first fault up to it by stages: tokens of the header, tokens of the source, preprocessing, cutting.
 use Rattle.std.specs.Prelude.{ℕ, List, Result}
 use Rattle.c_tree.specs.declared.item.Unit.{Unit as Whole}
 use Rattle.c_text.specs.Refusal.{Refusal}

@@ -1,5 +1,5 @@
-//! What C texts mean: so far the unit that a header and a source are, or their first fault, as a
-//! definition in `specs/`. The types of tokens and trees are given on, so that whoever needs
+//! What C texts mean: so far the unit that a header and a source are, or their first fault up to it, as
+//! a definition in `specs/`. The types of tokens and trees are given on, so that whoever needs
 //! C's trees and their meaning needs this crate alone.
 //!
 //! ```text

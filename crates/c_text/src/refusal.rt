@@ -36,9 +36,9 @@ pub enum CKind {
     ConstWrite,
     /// A second declaration in one scope that does not agree with the first.
     Redeclared,
-    /// A call inside an expression of a function that may write.
+    /// A call of a function that has a pointer parameter, or of `memset` inside an expression.
     ImpureCall,
-    /// A call inside an expression of a function that itself calls.
+    /// A call of a function that itself calls.
     DeepCall,
     /// Two equal values, or two defaults, in one switch.
     DuplicateCase,
@@ -118,8 +118,9 @@ impl CKind {
             CKind::TypeMismatch => "a value of this type may not stand here",
             CKind::ConstWrite => "this writes through a pointer to const",
             CKind::Redeclared => "this does not agree with an earlier declaration in its scope",
-            CKind::ImpureCall => "a function that may write is called inside an expression",
-            CKind::DeepCall => "a function that calls another is called inside an expression",
+            CKind::ImpureCall =>
+                "a function that takes a pointer may not be called, nor memset inside an expression",
+            CKind::DeepCall => "a function that itself calls may not be called",
             CKind::DuplicateCase => "this switch has two equal values or two defaults",
             CKind::ReservedName => "a declared name may not begin with an underscore",
         }

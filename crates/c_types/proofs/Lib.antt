@@ -1,7 +1,7 @@
-pub mod Bounds
 pub mod Tables
 pub mod Verdicts
 pub mod Arguments
 pub mod Sequences
--- Worked values, by computation.
-mod IntegerTypes
+pub mod Behind
+pub mod FieldLists
+pub mod Items

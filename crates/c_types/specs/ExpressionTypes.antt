@@ -21,14 +21,14 @@ use Rattle.c_tree.specs.declared.item.Field.{Field}
 use Rattle.c_tree.specs.declared.item.Function.{Function}
 use Rattle.c_tree.specs.declared.item.Target.TheVariants.{Byte, Struct}
 use Rattle.cg_out.specs.Words.{look_up}
-use Rattle.c_types.specs.DataModel.{DataModel}
-use Rattle.c_types.specs.IntegerType.{type_of}
-use Rattle.c_types.specs.Promotion.{promote}
-use Rattle.c_types.specs.CommonType.{common_promoted}
-use Rattle.c_types.specs.ConstantType.{constant_type}
+use Rattle.c_widths.specs.DataModel.{DataModel}
+use Rattle.c_widths.specs.IntegerType.{type_of}
+use Rattle.c_widths.specs.Promotion.{promote}
+use Rattle.c_widths.specs.CommonType.{common_promoted}
+use Rattle.c_widths.specs.ConstantType.{constant_type}
 use Rattle.c_types.specs.TypeFault.{fault, when}
-use Rattle.c_types.specs.Scope.{Declared, Scope, type_named}
-use Rattle.c_types.specs.Setting.{Setting}
+use Rattle.c_types.specs.Scope.{Scope, type_named}
+use Rattle.c_types.specs.Setting.{Setting, declared_by}
 
 -- ---- sorts
 
@@ -151,13 +151,13 @@ unknown_field None place = fault UnknownName place ∷ []
 unknown_field (Some type) place = []
 
 -- a tag without a struct is told where the pointer is declared
-abbrev pub type_among : DataModel → List ℕ → Option Declared → Option IntType
+abbrev pub type_among : DataModel → List ℕ → Option (List Field) → Option IntType
 type_among m field None = None
-type_among m field (Some fields) = field_type m (look_up field fields)
+type_among m field (Some fields) = field_type m (look_up field (declared_by fields))
 
-abbrev pub faults_among : List ℕ → Option Declared → Place → List Refusal
+abbrev pub faults_among : List ℕ → Option (List Field) → Place → List Refusal
 faults_among field None place = []
-faults_among field (Some fields) place = unknown_field (look_up field fields) place
+faults_among field (Some fields) place = unknown_field (look_up field (declared_by fields)) place
 
 abbrev pub tagged_type : Setting → Option (List ℕ) → List ℕ → Option IntType
 tagged_type s None field = None

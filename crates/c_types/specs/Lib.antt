@@ -1,11 +1,4 @@
--- What the promises rest on: types of integers.
-pub mod DataModel
-pub mod IntegerType
-pub mod Promotion
-pub mod Conversion
-pub mod CommonType
-pub mod ConstantType
--- Faults of types.
+-- What the promises rest on.
 pub mod TypeFault
 pub mod Scope
 pub mod Calling
@@ -14,9 +7,11 @@ pub mod ExpressionTypes
 pub mod SwitchLabels
 pub mod StatementTypes
 pub mod UnitTypes
+pub mod FirstFault
 -- What the functions inside promise each other.
 pub mod Entries
 pub mod Blocks
 pub mod Verdict
 pub mod Shown
+pub mod Behind
 pub mod CaseNumbers

@@ -6,20 +6,20 @@ use Rattle.c_tree.specs.declared.item.Item.{Item}
 use Rattle.c_tree.specs.declared.item.Item.TheVariants as item
 use Rattle.c_tree.specs.declared.statement.Stmt.{Stmt}
 use Rattle.cg_out.specs.Words.{look_up}
-use Rattle.c_types.specs.DataModel.{DataModel}
+use Rattle.c_widths.specs.DataModel.{DataModel}
 use Rattle.c_types.specs.Scope.{Declared}
 use Rattle.c_types.specs.Calling.{statements_call}
 
 -- ---- tables of items by their names, in order
 
--- fields or parameters
+-- what fields or parameters declare
 abbrev pub declared_by : List Field → Declared
 declared_by fields = map (λ f. (f.name, f.kind)) fields
 
 -- the fields of every struct, by its tag
-abbrev pub structs : List Item → List (List ℕ × Declared)
+abbrev pub structs : List Item → List (List ℕ × List Field)
 structs [] = []
-structs (item.Struct s ∷ rest) = (s.tag, declared_by s.fields) ∷ structs rest
+structs (item.Struct s ∷ rest) = (s.tag, s.fields) ∷ structs rest
 structs (item.Function f ∷ rest) = structs rest
 
 -- every prototype and definition
@@ -54,7 +54,7 @@ callings (item.Function f ∷ rest) = calling f.body f.name ++ callings rest
 pub record Setting : Type 0 where
   pub model : DataModel
   -- the fields of the struct with this tag, where it is declared before
-  pub fields : List ℕ → Option Declared
+  pub fields : List ℕ → Option (List Field)
   -- the declaration before of the function with this name
   pub function : List ℕ → Option Function
   -- its definition before

@@ -11,9 +11,9 @@ use Rattle.c_tree.specs.declared.expression.Expr.{Expr, Expr-F, fold-Expr}
 use Rattle.c_tree.specs.declared.expression.ExprKind.TheOpen.{ExprKind-F}
 use Rattle.c_tree.specs.declared.expression.UnaryOp.{UnaryOp}
 use Rattle.c_tree.specs.declared.expression.UnaryOp.TheVariants.{Plus, Minus}
-use Rattle.c_types.specs.DataModel.{DataModel}
-use Rattle.c_types.specs.Conversion.{convert}
-use Rattle.c_types.specs.ConstantType.{constant_type}
+use Rattle.c_widths.specs.DataModel.{DataModel}
+use Rattle.c_widths.specs.Conversion.{convert}
+use Rattle.c_widths.specs.ConstantType.{constant_type}
 use Rattle.c_types.specs.TypeFault.{when}
 
 -- ---- the value of a constant with signs and brackets (6.6)

@@ -15,7 +15,7 @@ use Rattle.c_tree.specs.declared.item.Target.TheVariants.{Byte, Struct}
 use Rattle.c_tree.specs.declared.item.Unit.{Unit as Whole}
 use Rattle.c_tree.specs.declared.statement.Stmt.{Stmt}
 use Rattle.cg_out.specs.Words.{same_bool}
-use Rattle.c_types.specs.DataModel.{DataModel}
+use Rattle.c_widths.specs.DataModel.{DataModel}
 use Rattle.c_types.specs.TypeFault.{when}
 use Rattle.c_types.specs.Scope.{Declared, is_reserved, name_faults}
 use Rattle.c_types.specs.Setting.{Setting, setting, declared_by}
@@ -30,10 +30,13 @@ lacks_tag s None = false
 lacks_tag s (Some tag) = not (is_some (s.fields tag))
 
 -- behind others of the same list
-abbrev pub field_faults : Setting → Declared → List Field → List Refusal
-field_faults s earlier [] = []
-field_faults s earlier (f ∷ rest) =
-    when (lacks_tag s (tag_of f.kind)) UnknownName f.place ++ (name_faults f.name f.place earlier ++ field_faults s (earlier ++ (f.name, f.kind) ∷ []) rest)
+abbrev pub field_faults : Setting → Declared → Field → List Refusal
+field_faults s earlier f = when (lacks_tag s (tag_of f.kind)) UnknownName f.place ++ name_faults f.name f.place earlier
+
+-- a list of them behind others
+abbrev pub fields_in_order : Setting → Declared → List Field → List Refusal
+fields_in_order s earlier [] = []
+fields_in_order s earlier (f ∷ rest) = field_faults s earlier f ++ fields_in_order s (earlier ++ declared_by (f ∷ [])) rest
 
 -- ---- declarations that agree: equal but for their places
 
@@ -48,9 +51,12 @@ same_type (Integer a) (Integer b) = same_spelled a b
 same_type (Pointer a first) (Pointer b second) = same_target a b && same_bool first second
 same_type a b = false
 
+abbrev pub same_field : Field → Field → Bool
+same_field f g = same_type f.kind g.kind && bytes_eq f.name g.name
+
 abbrev pub same_fields : List Field → List Field → Bool
 same_fields [] [] = true
-same_fields (f ∷ fs) (g ∷ gs) = (same_type f.kind g.kind && bytes_eq f.name g.name) && same_fields fs gs
+same_fields (f ∷ fs) (g ∷ gs) = same_field f g && same_fields fs gs
 same_fields fs gs = false
 
 -- of two functions of one name
@@ -72,13 +78,13 @@ body_faults s (Some list) returns params = statements s list returns (record { o
 abbrev pub head_faults : Setting → Function → List Refusal
 head_faults s f =
     when (disagrees f (s.function f.name) (s.defined f.name)) Redeclared f.place
-    ++ (when (is_reserved f.name) ReservedName f.place ++ field_faults s [] f.params)
+    ++ (when (is_reserved f.name) ReservedName f.place ++ fields_in_order s [] f.params)
 
 -- a struct
 abbrev pub struct_faults : Setting → Structure → List Refusal
 struct_faults s x =
     when (is_some (s.fields x.tag)) Redeclared x.place
-    ++ (when (is_reserved x.tag) ReservedName x.place ++ field_faults s [] x.fields)
+    ++ (when (is_reserved x.tag) ReservedName x.place ++ fields_in_order s [] x.fields)
 
 -- before an item and behind it; a function is declared in its own body
 abbrev pub item_faults : Setting → Setting → Item → List Refusal

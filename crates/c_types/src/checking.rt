@@ -1,6 +1,6 @@
 //! The faults of a whole expression, from the left (ISO/IEC 9899:1999, the constraints of 6.5).
 ghost use Rattle.std.specs.Prelude.{◌≡◌};
-ghost use Rattle.c_types.specs.DataModel.{IsModel};
+ghost use Rattle.c_widths.specs.DataModel.{IsModel};
 ghost use Rattle.c_types.specs.ExpressionTypes as spec;
 ghost use Rattle.c_types.specs.Shown.{setting_of};
 ghost use Rattle.c_types.specs.Verdict.{Passes, Sees, wanted_shown};
@@ -11,8 +11,8 @@ use crate::expression::{
 use crate::known::Known;
 use crate::local::Scopes;
 use crate::refusing::{Sort, Wanted, fit, fit_number};
-use crate::widths::Widths;
 use c_mean::{CFault, Expr, ExprKind, IntType, Place};
+use c_widths::Widths;
 
 /// The type of an expression, or its first fault.
 #[cycle(expressions)]

@@ -1,8 +1,8 @@
 //! The faults of an expression (ISO/IEC 9899:1999, the constraints of 6.5).
 ghost use Rattle.std.specs.Prelude.{◌≡◌, ℕ, length};
 ghost use Rattle.c_text.specs.declared.place.Place.{Place};
-ghost use Rattle.c_types.specs.ConstantType.{constant_type};
-ghost use Rattle.c_types.specs.DataModel.{IsModel, model_of};
+ghost use Rattle.c_widths.specs.ConstantType.{constant_type};
+ghost use Rattle.c_widths.specs.DataModel.{IsModel, model_of};
 ghost use Rattle.c_types.specs.ExpressionTypes as spec;
 ghost use Rattle.c_types.specs.Scope.{type_named};
 ghost use Rattle.c_types.specs.Entries.{lent};
@@ -15,11 +15,11 @@ use crate::named_type::integer_type;
 use crate::refusing::{
     Sort, Wanted, fit, fit_name, fit_number, is_null, is_pointer, mismatch, refuse_if,
 };
-use crate::widths::Widths;
 use c_mean::{
     BinaryOp, CFault, CKind, CType, Callee, Constant, Expr, ExprKind, Field, Function, IntType,
     Place, UnaryOp,
 };
+use c_widths::Widths;
 
 /// Of a name that is no local: a function's, or unknown.
 pub fn not_local(function: Option<&Function>, place: Place) -> CFault
@@ -248,7 +248,7 @@ fn tagged_field<'a, const INT: u32, const LONG: u32, const PTR: u32>(
     ensures { Sees result (spec.number_found (spec.type_among (model_of INT LONG PTR) field.now ((setting_of known.now).fields tag.now)) (spec.faults_among field.now ((setting_of known.now).fields tag.now) place)) }
 {
     match known.fields(tag) {
-        Some(fields) => match fields.table.get(field) {
+        Some(fields) => match fields.get(field) {
             Some(kind) => Ok(kind.integer_type::<INT, LONG, PTR>()),
             None => Err(not_local(None, place)),
         },

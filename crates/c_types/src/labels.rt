@@ -1,17 +1,17 @@
 //! The labels of a switch (ISO/IEC 9899:1999, 6.8.4.2).
 ghost use Rattle.std.specs.Prelude.{◌≡◌, pos, neg_ℤ, ◌^◌, ◌≤ℤ◌, ◌<ℤ◌, Some, IfSome, OnOk};
 ghost use Rattle.std.specs.Option.{option_map};
-ghost use Rattle.c_types.specs.DataModel.{IsModel, model_of};
+ghost use Rattle.c_widths.specs.DataModel.{IsModel, model_of};
 ghost use Rattle.c_types.specs.SwitchLabels as spec;
 ghost use Rattle.c_types.specs.TypeFault.{when};
-ghost use Rattle.c_types.specs.ConstantType.{constant_type};
+ghost use Rattle.c_widths.specs.ConstantType.{constant_type};
 ghost use Rattle.c_text.specs.declared.refusal.CKind.TheVariants.{DuplicateCase};
 ghost use Rattle.c_types.specs.Verdict.{Passes};
 ghost use Rattle.c_types.specs.CaseNumbers.{typed, IsSmall};
 
 use crate::refusing::refuse_if;
-use crate::widths::Widths;
 use c_mean::{CFault, CKind, Constant, Expr, ExprKind, IntType, Place, UnaryOp};
+use c_widths::Widths;
 use indexmap::IndexSet;
 use std::alloc::Global;
 use std::marker::Model;

@@ -1,15 +1,18 @@
-//! The types of C units under a data model (ISO/IEC 9899:1999, 6.2.5, 6.3.1 and the constraints of
-//! 6.5 to 6.9): a unit comes in, and that it has no fault of types, or its first one, goes out.
+//! The faults of names and types of C units under a data model (ISO/IEC 9899:1999, 6.2.1 and the
+//! constraints of 6.5 to 6.9): a unit comes in, and that it has none, or its first one, goes out.
 //!
 //! ```text
-//! Widths::<32, 64, 64>::promote(IntType::UnsignedShort) == IntType::Int
-//! Widths::<32, 32, 32>::common(IntType::UnsignedInt, IntType::Long) == IntType::UnsignedLong
+//! let typed = typed::<32, 64, 64>(alloc, &unit)?;
+//! typed.prototype(b"can_ping_pack")
 //! ```
 #![tactic(auto)]
 
+mod agreeing;
 mod calling;
 mod checking;
+mod declaring;
 mod expression;
+mod fields;
 mod known;
 mod labels;
 mod local;
@@ -18,6 +21,7 @@ mod refusing;
 mod statement;
 mod statements;
 mod table;
-mod widths;
+mod typed_unit;
 
-pub use widths::Widths;
+pub use c_widths::Widths;
+pub use typed_unit::{TypedUnit, check, typed};

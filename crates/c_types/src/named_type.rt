@@ -1,15 +1,15 @@
 //! The types of names.
 ghost use Rattle.std.specs.Prelude.{◌≡◌};
 ghost use Rattle.c_tree.specs.declared.item.CType.TheVariants.{Integer};
-ghost use Rattle.c_types.specs.DataModel.{model_of};
+ghost use Rattle.c_widths.specs.DataModel.{model_of};
 ghost use Rattle.c_types.specs.ExpressionTypes as spec;
 ghost use Rattle.c_types.specs.StatementTypes.{points_to_const};
 ghost use Rattle.c_types.specs.Entries.{lent};
 ghost use Rattle.c_types.specs.Verdict.{Passes, sort_shown};
 
 use crate::refusing::{Sort, mismatch};
-use crate::widths::Widths;
 use c_mean::{CFault, CType, IntType, Place, Spelled, Target};
+use c_widths::Widths;
 use std::marker::Model;
 
 /// The type of a local, a parameter or a field.

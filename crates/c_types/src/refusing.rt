@@ -8,7 +8,7 @@ ghost use Rattle.c_text.specs.declared.refusal.CKind.TheVariants.{TypeMismatch};
 use c_mean::{CFault, CKind, Place};
 
 /// What an expression is.
-#[derive(Clone, Copy, Debug, PartialEq, Eq)]
+#[derive(Clone, Copy)]
 pub enum Sort {
     /// An integer, or what cannot be told.
     Number,
@@ -25,7 +25,7 @@ pub enum Sort {
 }
 
 /// What is wanted of an expression.
-#[derive(Clone, Copy, Debug, PartialEq, Eq)]
+#[derive(Clone, Copy)]
 pub enum Wanted {
     AnInteger,
     Anything,

@@ -3,7 +3,7 @@
 ghost use Rattle.std.specs.Prelude.{◌≡◌, ◌∷◌, [], Some, false, OnOk};
 ghost use Rattle.c_tree.specs.declared.expression.ExprKind.{out-ExprKind};
 ghost use Rattle.c_tree.specs.declared.item.CType.TheVariants.{Integer};
-ghost use Rattle.c_types.specs.DataModel.{IsModel};
+ghost use Rattle.c_widths.specs.DataModel.{IsModel};
 ghost use Rattle.c_types.specs.ExpressionTypes.{integer_value};
 ghost use Rattle.c_types.specs.Scope as scope;
 ghost use Rattle.c_types.specs.StatementTypes as spec;

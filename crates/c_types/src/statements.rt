@@ -1,6 +1,6 @@
 //! The faults of whole statements, from the left (ISO/IEC 9899:1999, the constraints of 6.8).
 ghost use Rattle.std.specs.Prelude.{◌≡◌, OnOk};
-ghost use Rattle.c_types.specs.DataModel.{IsModel};
+ghost use Rattle.c_widths.specs.DataModel.{IsModel};
 ghost use Rattle.c_types.specs.Scope.{behind};
 ghost use Rattle.c_types.specs.SwitchLabels.{no_labels};
 ghost use Rattle.c_types.specs.StatementTypes as spec;

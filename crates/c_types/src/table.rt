@@ -2,6 +2,7 @@
 ghost use Rattle.std.specs.Prelude.{◌≡◌, ◌∷◌, ◌++◌, [], None, OnOk};
 ghost use Rattle.cg_out.specs.Words.{look_up};
 ghost use Rattle.c_types.specs.Entries.{lent};
+ghost use Rattle.c_types.specs.Behind.{Adds};
 
 use cg_out::Memory;
 use indexmap::IndexMap;
@@ -45,6 +46,16 @@ impl<'a, V: Drop> Table<'a, V> {
         ensures { OnOk result (self.new ≡ self.old ++ (name.now, value) ∷ []) }
     {
         self.entries.insert(name, value)?;
+        Ok(())
+    }
+
+    /// Gives a name a value, where it has none.
+    pub fn put_first(&mut self, name: &'a [u8], value: V) -> Result<(), Memory>
+        ensures { OnOk result (Adds self.old ((name.now, value) ∷ []) self.new) }
+    {
+        if let None = self.get(name) {
+            self.put(name, value)?;
+        }
         Ok(())
     }
 }

@@ -286,54 +286,61 @@ impl Eprint for Machine<'_> {
     }
 }
 
+/// What a failure's row gives: the calls of the system, a file, the answers of a read and a write,
+/// and what a person is told.
+type Told = (
+    &'static [Step],
+    &'static [u8],
+    Result<(), ReadFault>,
+    Result<(), Failed>,
+    &'static [u8],
+);
+
+const FAILING: &[Step] = &[Step::Takes(2), Step::Fails(ErrorKind::ConnectionReset)];
+
+const TOLD: &[Told] = &[
+    (&[], b"a.dbc", Ok(()), Ok(()), b""),
+    (
+        FAILING,
+        b"a.dbc",
+        Err(ReadFault::Failed),
+        Err(Failed),
+        b"cantoolc: a.dbc: cannot be read: connection reset
+cantoolc: a.dbc: cannot be written: connection reset
+",
+    ),
+    (
+        &[],
+        b"-.dbc",
+        Err(ReadFault::Failed),
+        Err(Failed),
+        b"cantoolc: -.dbc: cannot be read: entity not found
+cantoolc: -.dbc: cannot be written: entity not found
+",
+    ),
+    // A want of memory is no failure of a read.
+    (
+        &[],
+        b"+.dbc",
+        Err(ReadFault::Memory),
+        Err(Failed),
+        b"cantoolc: +.dbc: cannot be written: out of memory\n",
+    ),
+    (
+        &[],
+        b"\xff",
+        Err(ReadFault::Failed),
+        Err(Failed),
+        b"cantoolc: a file whose name is no text: cannot be read: invalid input parameter
+cantoolc: a file whose name is no text: cannot be written: invalid input parameter
+",
+    ),
+];
+
 #[test]
 fn a_failure_is_told(rt: HostRuntime) -> Result<(), Fail> {
     let alloc = rt.alloc();
-    let fails = [Step::Takes(2), Step::Fails(ErrorKind::ConnectionReset)];
-    for (script, name, read, write, told) in [
-        (
-            [].as_slice(),
-            b"a.dbc".as_slice(),
-            Ok(()),
-            Ok(()),
-            b"".as_slice(),
-        ),
-        (
-            &fails,
-            b"a.dbc",
-            Err(ReadFault::Failed),
-            Err(Failed),
-            b"cantoolc: a.dbc: cannot be read: connection reset
-cantoolc: a.dbc: cannot be written: connection reset
-",
-        ),
-        (
-            &[],
-            b"-.dbc",
-            Err(ReadFault::Failed),
-            Err(Failed),
-            b"cantoolc: -.dbc: cannot be read: entity not found
-cantoolc: -.dbc: cannot be written: entity not found
-",
-        ),
-        // A want of memory is no failure of a read.
-        (
-            &[],
-            b"+.dbc",
-            Err(ReadFault::Memory),
-            Err(Failed),
-            b"cantoolc: +.dbc: cannot be written: out of memory\n",
-        ),
-        (
-            &[],
-            b"\xff",
-            Err(ReadFault::Failed),
-            Err(Failed),
-            b"cantoolc: a file whose name is no text: cannot be read: invalid input parameter
-cantoolc: a file whose name is no text: cannot be written: invalid input parameter
-",
-        ),
-    ] {
+    for &(script, name, read, write, told) in TOLD {
         let machine = Machine {
             alloc,
             script: Cell::new(script),

@@ -2,6 +2,7 @@
 ghost use Rattle.std.specs.Prelude.{◌≡◌, ◌≤◌, [], ◌∷◌, length, IfOk};
 ghost use Rattle.c_text.specs.Refusal.{Gives};
 ghost use Rattle.c_text.specs.Preprocessing.{preprocessed_texts};
+ghost use Rattle.c_types.specs.FirstFault.{typed_texts};
 ghost use Rattle.c_mean.specs.FirstFault.{unit_of_texts};
 ghost use Rattle.cli_tool.specs.CheckTask.{check_work};
 ghost use Rattle.cli_tool.specs.Asked.{answer_in};
@@ -14,6 +15,7 @@ use c_lexer::{SOURCE_LIMIT, tokens};
 use c_mean::{CFault, CKind, Place, Preprocessed, Unit};
 use c_parser::unit;
 use c_pre::expand;
+use c_types::check;
 use cg_out::Memory;
 use std::alloc::Global;
 
@@ -30,7 +32,7 @@ pub fn checked<'a>(
     requires source_fits { length source_text.now ≤ SOURCE_LIMIT }
     ensures { IfOk result (λ a. answer_in a ≡ check_work header.now (header_text.now ∷ source_text.now ∷ [])) }
 {
-    match unit_of(alloc, header_text, base(header), source_text) {
+    match typed_unit_of(alloc, header_text, base(header), source_text) {
         Ok(_) => Ok(Answer::Outcome(true, Vec::new(alloc), fine(alloc)?)),
         Err(CFault::Fault { kind, place }) => {
             let report = c_refusal(alloc, kind, place)?;
@@ -55,6 +57,17 @@ fn why_of<'a>(kind: CKind, place: Place, file: &'a [u8], text: &[u8]) -> Why<'a>
         column: Some(column_of(text, place.start)),
         message: kind.message(),
     }
+}
+
+/// The unit that the texts are, without a fault of names and types under any data model.
+fn typed_unit_of(alloc: Global, header: &[u8], name: &[u8], source: &[u8]) -> Result<Unit, CFault>
+    requires header_fits { length header.now ≤ SOURCE_LIMIT }
+    requires source_fits { length source.now ≤ SOURCE_LIMIT }
+    ensures { Gives (λ u. u) result (typed_texts header.now name.now source.now) }
+{
+    let unit = unit_of(alloc, header, name, source)?;
+    check(alloc, &unit)?;
+    Ok(unit)
 }
 
 /// The unit that the texts are.

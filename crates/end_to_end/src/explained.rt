@@ -27,31 +27,33 @@ impl Sink for Noting {
     }
 }
 
+const NOTES: &[(&str, &[u8], &[u8], &str)] = &[
+    (
+        "check in/h.h t.c",
+        b"",
+        b"int f(void)\n{ return 1 }",
+        "t.c:2:3: no form of C that is read fits here",
+    ),
+    (
+        "check in/h.h t.c",
+        b"\n\n  /*",
+        b"",
+        "in/h.h:3:3: this comment has no end",
+    ),
+    (
+        "generate_c_source t.c",
+        b"",
+        b"CM_ \"a\";",
+        "t.c:0:0: this form is not read yet",
+    ),
+    ("check in/h.h t.c", b"", b"", ""),
+    ("decode t.c 497 00", b"", b"", ""),
+];
+
 #[test]
 fn refusals_are_explained(rt: HostRuntime) -> Result<(), Fail> {
     let alloc = rt.alloc();
-    for (words, header, source, notes) in [
-        (
-            "check in/h.h t.c",
-            b"".as_slice(),
-            b"int f(void)\n{ return 1 }".as_slice(),
-            "t.c:2:3: no form of C that is read fits here",
-        ),
-        (
-            "check in/h.h t.c",
-            b"\n\n  /*",
-            b"",
-            "in/h.h:3:3: this comment has no end",
-        ),
-        (
-            "generate_c_source t.c",
-            b"",
-            b"CM_ \"a\";",
-            "t.c:0:0: this form is not read yet",
-        ),
-        ("check in/h.h t.c", b"", b"", ""),
-        ("decode t.c 497 00", b"", b"", ""),
-    ] {
+    for &(words, header, source, notes) in NOTES {
         let mut entries = Vec::new(alloc);
         for (name, bytes) in [("in/h.h", header), ("t.c", source)] {
             entries.push(Entry {

@@ -1,5 +1,5 @@
 //! The rows.
-use crate::table::{Row, check, plain};
+use crate::table::{Row, check, check_all, plain};
 use cg_out::{Entry, Failing, MemoryFiles, MemorySink, Text};
 use cli_tool::{Status, Word, run};
 use std::alloc::Global;
@@ -99,55 +99,120 @@ BA_ \"GenMsgCycleTime\" BO_ 2364540158 100;
 
 const NOT_YET: &[u8] = b"refused 25 NotYet line 0\n";
 
-#[test]
-fn headers_are_written(rt: HostRuntime) -> Result<(), Fail> {
-    let row = plain(
-        "generate_c_source can.dbc",
-        &[("can.dbc", CAN)],
-        Status::Done,
-        b"can.h\n",
-        &[
+/// Databases, and the headers that are written.
+const HEADERS: &[Row<'static>] = &[
+    Row {
+        words: "generate_c_source can.dbc",
+        files: &[("can.dbc", CAN)],
+        failing: &[],
+        sink_failing: &[],
+        status: Status::Done,
+        report: b"can.h\n",
+        left: &[
             ("can.h", Some(CAN_HEADER)),
             ("can.dbc", Some(CAN)),
             ("can.c", None),
         ],
-    );
-    check(&rt, rt.alloc(), &row)?;
-    let row = plain(
-        "generate_c_source nil.dbc",
-        &[("nil.dbc", b""), ("nil.h", b"old"), ("other.h", b"stays")],
-        Status::Done,
-        b"nil.h\n",
-        &[("nil.h", Some(NIL_HEADER)), ("other.h", Some(b"stays"))],
-    );
-    check(&rt, rt.alloc(), &row)?;
-    let row = plain(
-        "generate_c_source in/.a/My-Bus.v2.dbc",
-        &[(
+    },
+    Row {
+        words: "generate_c_source nil.dbc",
+        files: &[("nil.dbc", b""), ("nil.h", b"old"), ("other.h", b"stays")],
+        failing: &[],
+        sink_failing: &[],
+        status: Status::Done,
+        report: b"nil.h\n",
+        left: &[("nil.h", Some(NIL_HEADER)), ("other.h", Some(b"stays"))],
+    },
+    Row {
+        words: "generate_c_source in/.a/My-Bus.v2.dbc",
+        files: &[(
             "in/.a/My-Bus.v2.dbc",
             b"\xef\xbb\xbfBO_ 2684354559 EngineData1: 8.0 BO_\r\nBO_ 3221225472 VECTOR__INDEPENDENT_SIG_MSG: 0 Vector__XXX",
         )],
-        Status::Done,
-        b"my_bus_v2.h\n",
-        &[("my_bus_v2.h", Some(SHOWN_HEADER))],
-    );
-    check(&rt, rt.alloc(), &row)
+        failing: &[],
+        sink_failing: &[],
+        status: Status::Done,
+        report: b"my_bus_v2.h\n",
+        left: &[("my_bus_v2.h", Some(SHOWN_HEADER))],
+    },
+];
+
+/// Files that are refused, and their texts.
+const REFUSED: &[(&str, &[u8])] = &[
+    ("truck.dbc", TRUCK),
+    ("pump.sym", CAN),
+    ("pump.SyM", b""),
+    ("equal.dbc", b"BO_ 1 AB: 1 X BO_ 2 Ab: 1 X BO_ 3 aB: 1 X"),
+    (
+        "signal.dbc",
+        b"BO_ 1 A: 8 X\n SG_ S : 0|8@1+ (1,0) [0|0] \"\" X",
+    ),
+    ("byte.dbc", b"BO_ 1 A: 8 X %"),
+    ("cut.dbc", b"BO_ 1 A: 8"),
+];
+
+const WRONG_WORDS: &[&str] = &[
+    "",
+    "generate_c_source",
+    "generate_c_source can.dbc can.dbc",
+    "generate can.dbc",
+    "can.dbc generate_c_source",
+    "decode example.dbc 497 00",
+];
+
+/// The database, and the header of an earlier run.
+const CAN_AND_OLD: &[(&str, &[u8])] = &[("can.dbc", CAN), ("can.h", b"old")];
+
+const CAN_LEFT: &[(&str, Option<&[u8]>)] = &[("can.dbc", Some(CAN)), ("can.h", Some(b"old"))];
+
+/// Files and sinks that fail.
+const FAILURES: &[Row<'static>] = &[
+    Row {
+        words: "generate_c_source absent.dbc",
+        files: &[("can.dbc", CAN)],
+        failing: &[],
+        sink_failing: &[],
+        status: Status::FileFault,
+        report: b"",
+        left: &[("absent.h", None)],
+    },
+    Row {
+        words: "generate_c_source can.dbc",
+        files: CAN_AND_OLD,
+        failing: &[Failing { call: 2, keep: 10 }],
+        sink_failing: &[],
+        status: Status::FileFault,
+        report: b"",
+        left: &[("can.h", Some(b"/* Generat"))],
+    },
+    Row {
+        words: "generate_c_source can.dbc",
+        files: CAN_AND_OLD,
+        failing: &[Failing { call: 1, keep: 10 }],
+        sink_failing: &[],
+        status: Status::FileFault,
+        report: b"",
+        left: &[("can.h", Some(b"old"))],
+    },
+    Row {
+        words: "generate_c_source can.dbc",
+        files: CAN_AND_OLD,
+        failing: &[],
+        sink_failing: &[Failing { call: 1, keep: 4 }],
+        status: Status::OutFault,
+        report: b"can.",
+        left: &[("can.h", Some(CAN_HEADER))],
+    },
+];
+
+#[test]
+fn headers_are_written(rt: HostRuntime) -> Result<(), Fail> {
+    check_all(&rt, rt.alloc(), HEADERS)
 }
 
 #[test]
 fn texts_are_refused(rt: HostRuntime) -> Result<(), Fail> {
-    for (file, text) in [
-        ("truck.dbc", TRUCK),
-        ("pump.sym", CAN),
-        ("pump.SyM", b""),
-        ("equal.dbc", b"BO_ 1 AB: 1 X BO_ 2 Ab: 1 X BO_ 3 aB: 1 X"),
-        (
-            "signal.dbc",
-            b"BO_ 1 A: 8 X\n SG_ S : 0|8@1+ (1,0) [0|0] \"\" X",
-        ),
-        ("byte.dbc", b"BO_ 1 A: 8 X %"),
-        ("cut.dbc", b"BO_ 1 A: 8"),
-    ] {
+    for &(file, text) in REFUSED {
         let words = format!(in rt.alloc(); "generate_c_source {file}")?;
         let files = [(file, text)];
         let left = [(file, Some(text))];
@@ -158,64 +223,18 @@ fn texts_are_refused(rt: HostRuntime) -> Result<(), Fail> {
 }
 
 #[test]
-fn words_and_the_outside_fail(rt: HostRuntime) -> Result<(), Fail> {
-    for words in [
-        "",
-        "generate_c_source",
-        "generate_c_source can.dbc can.dbc",
-        "generate can.dbc",
-        "can.dbc generate_c_source",
-        "decode example.dbc 497 00",
-    ] {
-        let row = plain(
-            words,
-            &[("can.dbc", CAN)],
-            Status::Usage,
-            b"cantoolc: wrong words\n",
-            &[("can.h", None)],
-        );
+fn words_are_wrong(rt: HostRuntime) -> Result<(), Fail> {
+    let usage = b"cantoolc: wrong words\n";
+    for words in WRONG_WORDS {
+        let row = plain(words, CAN_AND_OLD, Status::Usage, usage, CAN_LEFT);
         check(&rt, rt.alloc(), &row)?;
     }
-    let row = plain(
-        "generate_c_source absent.dbc",
-        &[("can.dbc", CAN)],
-        Status::FileFault,
-        b"",
-        &[("absent.h", None)],
-    );
-    check(&rt, rt.alloc(), &row)?;
-    let words = "generate_c_source can.dbc";
-    let files = [("can.dbc", CAN), ("can.h", b"old")];
-    let row = Row {
-        words,
-        files: &files,
-        failing: &[Failing { call: 2, keep: 10 }],
-        sink_failing: &[],
-        status: Status::FileFault,
-        report: b"",
-        left: &[("can.h", Some(b"/* Generat"))],
-    };
-    check(&rt, rt.alloc(), &row)?;
-    let row = Row {
-        words,
-        files: &files,
-        failing: &[Failing { call: 1, keep: 10 }],
-        sink_failing: &[],
-        status: Status::FileFault,
-        report: b"",
-        left: &[("can.h", Some(b"old"))],
-    };
-    check(&rt, rt.alloc(), &row)?;
-    let row = Row {
-        words,
-        files: &files,
-        failing: &[],
-        sink_failing: &[Failing { call: 1, keep: 4 }],
-        status: Status::OutFault,
-        report: b"can.",
-        left: &[("can.h", Some(CAN_HEADER))],
-    };
-    check(&rt, rt.alloc(), &row)
+    Ok(())
+}
+
+#[test]
+fn the_outside_fails(rt: HostRuntime) -> Result<(), Fail> {
+    check_all(&rt, rt.alloc(), FAILURES)
 }
 
 /// A text of so many blanks.

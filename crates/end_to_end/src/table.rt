@@ -66,3 +66,11 @@ pub(super) fn check(rt: &impl Abort, alloc: Global, row: &Row<'_>) -> Result<(),
     }
     Ok(())
 }
+
+/// Runs rows in turn.
+pub(super) fn check_all(rt: &impl Abort, alloc: Global, rows: &[Row<'_>]) -> Result<(), Fail> {
+    for row in rows {
+        check(rt, alloc, row)?;
+    }
+    Ok(())
+}

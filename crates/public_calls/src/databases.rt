@@ -42,31 +42,33 @@ fn outcome(alloc: Global, text: &[u8]) -> Result<Vec<u8>, Memory> {
     Ok(out)
 }
 
+const STATEMENTS: &[(&str, &str)] = &[
+    (
+        "VERSION \"\"\nBU_: X\nBO_ 291 Ping: 2 X\nBO_ 2147483649 Pong: 0 X\n",
+        "1:;2:;3:291 Ping 2;4:2147483649 Pong 0;",
+    ),
+    ("BO_ 1E1 A: 8.0 X", "1:10 A 8;"),
+    ("BO_ 1.50e1 A: 0e999 X", "1:15 A 0;"),
+    ("BO_ 4294967295 VAL_: 65535 BO_", "1:4294967295 VAL_ 65535;"),
+    (
+        "\u{FEFF}VERSION BU_:A B\tC\r\nBO_ .5e+1_a:6BO_",
+        "1:;1:;2:5 _a 6;",
+    ),
+    ("BO_ 1 A: 65536 X", "3 BadNumber line 1"),
+    ("BO_ 4294967296 A: 8 X", "3 BadNumber line 1"),
+    ("\nBO_ 1.5 A: 8 X", "3 BadNumber line 2"),
+    ("BO_ 1 A: 8\n\n", "4 Unexpected line 3"),
+    ("BO_ 1 2: 8 X", "4 Unexpected line 1"),
+    ("VERSION\n\"a\\\"b\nc\"\n\"abc\n\n", "2 OpenString line 4"),
+    ("BU_: A\n %", "1 BadByte line 2"),
+    ("NS_ :", "4 Unexpected line 1"),
+    ("BU_: A VAL_ B", "4 Unexpected line 1"),
+    ("VERSION\n;", "4 Unexpected line 2"),
+];
+
 #[test]
 fn texts_have_their_statements(rt: HostRuntime) -> Result<(), Memory> {
-    for (text, wanted) in [
-        (
-            "VERSION \"\"\nBU_: X\nBO_ 291 Ping: 2 X\nBO_ 2147483649 Pong: 0 X\n",
-            "1:;2:;3:291 Ping 2;4:2147483649 Pong 0;",
-        ),
-        ("BO_ 1E1 A: 8.0 X", "1:10 A 8;"),
-        ("BO_ 1.50e1 A: 0e999 X", "1:15 A 0;"),
-        ("BO_ 4294967295 VAL_: 65535 BO_", "1:4294967295 VAL_ 65535;"),
-        (
-            "\u{FEFF}VERSION BU_:A B\tC\r\nBO_ .5e+1_a:6BO_",
-            "1:;1:;2:5 _a 6;",
-        ),
-        ("BO_ 1 A: 65536 X", "3 BadNumber line 1"),
-        ("BO_ 4294967296 A: 8 X", "3 BadNumber line 1"),
-        ("\nBO_ 1.5 A: 8 X", "3 BadNumber line 2"),
-        ("BO_ 1 A: 8\n\n", "4 Unexpected line 3"),
-        ("BO_ 1 2: 8 X", "4 Unexpected line 1"),
-        ("VERSION\n\"a\\\"b\nc\"\n\"abc\n\n", "2 OpenString line 4"),
-        ("BU_: A\n %", "1 BadByte line 2"),
-        ("NS_ :", "4 Unexpected line 1"),
-        ("BU_: A VAL_ B", "4 Unexpected line 1"),
-        ("VERSION\n;", "4 Unexpected line 2"),
-    ] {
+    for &(text, wanted) in STATEMENTS {
         let found = outcome(rt.alloc(), text.as_bytes())?;
         assert!(rt; found.as_slice() == wanted.as_bytes(), "of {text}");
     }

@@ -26,23 +26,25 @@ fn fault_of(alloc: Global, text: &str, room: u32) -> Result<Vec<u8>, CFault> {
     Ok(out)
 }
 
+const FIRST_FAULTS: &[(&str, u32, &str)] = &[
+    ("a+<b", 64, "48 Syntax source 1:2-3"),
+    ("a-", 64, "48 Syntax source 9:99-100"),
+    ("a b", 64, "48 Syntax source 1:0-1"),
+    ("f(a,)", 64, "48 Syntax source 1:4-5"),
+    ("((a))", 2, ""),
+    ("(p[(a)])", 2, "49 TooDeep source 1:3-4"),
+    ("f((int)a)", 1, "49 TooDeep source 1:2-3"),
+    ("-(a)b", 64, "48 Syntax source 1:1-2"),
+    ("a+b c+d e", 64, "48 Syntax source 1:2-3"),
+    ("f(a,b c,d e)", 64, "48 Syntax source 1:4-5"),
+    ("a-(b-(c+))-d e", 64, "48 Syntax source 1:8-9"),
+    ("-(a()+((b)))*2", 2, "48 Syntax source 1:1-2"),
+    ("(int]-1", 64, "48 Syntax source 1:5-6"),
+];
+
 #[test]
 fn texts_have_their_first_faults(rt: HostRuntime) -> Result<(), CFault> {
-    for (text, room, wanted) in [
-        ("a+<b", 64, "48 Syntax source 1:2-3"),
-        ("a-", 64, "48 Syntax source 9:99-100"),
-        ("a b", 64, "48 Syntax source 1:0-1"),
-        ("f(a,)", 64, "48 Syntax source 1:4-5"),
-        ("((a))", 2, ""),
-        ("(p[(a)])", 2, "49 TooDeep source 1:3-4"),
-        ("f((int)a)", 1, "49 TooDeep source 1:2-3"),
-        ("-(a)b", 64, "48 Syntax source 1:1-2"),
-        ("a+b c+d e", 64, "48 Syntax source 1:2-3"),
-        ("f(a,b c,d e)", 64, "48 Syntax source 1:4-5"),
-        ("a-(b-(c+))-d e", 64, "48 Syntax source 1:8-9"),
-        ("-(a()+((b)))*2", 2, "48 Syntax source 1:1-2"),
-        ("(int]-1", 64, "48 Syntax source 1:5-6"),
-    ] {
+    for &(text, room, wanted) in FIRST_FAULTS {
         let found = fault_of(rt.alloc(), text, room)?;
         assert!(rt; found.as_slice() == wanted.as_bytes(), "of {text}");
     }

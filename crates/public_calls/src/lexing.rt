@@ -14,6 +14,23 @@ fn outcome(alloc: Global, text: &str) -> Result<Vec<u8>, Memory> {
     Ok(out)
 }
 
+const BAD_TOKENS: &[&str] = &[
+    "1.5",
+    "0x",
+    "0xu",
+    "08",
+    "9a",
+    "1lL",
+    "1uLl",
+    "1lul",
+    "1uu",
+    "1ulu",
+    "1lll",
+    "18446744073709551616",
+    "0x10000000000000000",
+    "02000000000000000000000u",
+];
+
 #[test]
 fn texts_have_their_tokens(rt: HostRuntime) -> Result<(), Memory> {
     for (text, wanted) in [
@@ -86,22 +103,7 @@ fn texts_have_their_tokens(rt: HostRuntime) -> Result<(), Memory> {
         let found = outcome(rt.alloc(), text)?;
         assert!(rt; found.as_slice() == wanted.as_bytes(), "of {text}");
     }
-    for text in [
-        "1.5",
-        "0x",
-        "0xu",
-        "08",
-        "9a",
-        "1lL",
-        "1uLl",
-        "1lul",
-        "1uu",
-        "1ulu",
-        "1lll",
-        "18446744073709551616",
-        "0x10000000000000000",
-        "02000000000000000000000u",
-    ] {
+    for text in BAD_TOKENS {
         let found = outcome(rt.alloc(), text)?;
         assert!(rt;
             found.as_slice() == b"40 BadToken source 1:0-1".as_slice(),
@@ -111,21 +113,23 @@ fn texts_have_their_tokens(rt: HostRuntime) -> Result<(), Memory> {
     Ok(())
 }
 
+const PLACES: &[(&str, &str, &str)] = &[
+    (
+        "a b\n/* 1\n2 */ c\n\n\"d\" // e\n3UL",
+        "\na b\nc\n\"d\"\n3ul",
+        " 1:0-1 1:2-3 3:14-15 5:17-20 6:26-29",
+    ),
+    (
+        "x/*\n*/y\nz<<=5",
+        "\nx y\nz <<= 5",
+        " 1:0-1 2:6-7 3:8-9 3:9-12 3:12-13",
+    ),
+];
+
 #[test]
 fn tokens_have_their_places(rt: HostRuntime) -> Result<(), Fail> {
     let alloc = rt.alloc();
-    for (text, kinds, places) in [
-        (
-            "a b\n/* 1\n2 */ c\n\n\"d\" // e\n3UL",
-            "\na b\nc\n\"d\"\n3ul",
-            " 1:0-1 1:2-3 3:14-15 5:17-20 6:26-29",
-        ),
-        (
-            "x/*\n*/y\nz<<=5",
-            "\nx y\nz <<= 5",
-            " 1:0-1 2:6-7 3:8-9 3:9-12 3:12-13",
-        ),
-    ] {
+    for &(text, kinds, places) in PLACES {
         let list = read(alloc, text, true)?;
         for token in &list {
             assert!(rt; token.place.header);

@@ -20,3 +20,5 @@ mod preprocessing;
 mod refusals;
 #[cfg(test)]
 mod spelling;
+#[cfg(test)]
+mod types;

@@ -4,23 +4,25 @@ use cg_out::{Memory, Text};
 use gen_unit::header;
 use name_rules::identifier;
 
+const IDENTIFIERS: &[(&[u8], &[u8])] = &[
+    (b"ABCDef9X", b"abc_def9_x"),
+    (b"__", b"x"),
+    (b"9a", b"x9a"),
+    (b"", b"x"),
+    (b"AverageRadius", b"average_radius"),
+    (b"EEC1", b"eec1"),
+    (
+        b"VECTOR__INDEPENDENT_SIG_MSG",
+        b"vector_independent_sig_msg",
+    ),
+    (b"\xc3\xa4B", b"b"),
+    (b"a.B", b"a_b"),
+    (b"HTTPServer2Go", b"http_server2_go"),
+];
+
 #[test]
 fn names_have_their_identifiers(rt: HostRuntime) -> Result<(), Memory> {
-    for (text, wanted) in [
-        (b"ABCDef9X".as_slice(), b"abc_def9_x".as_slice()),
-        (b"__", b"x"),
-        (b"9a", b"x9a"),
-        (b"", b"x"),
-        (b"AverageRadius", b"average_radius"),
-        (b"EEC1", b"eec1"),
-        (
-            b"VECTOR__INDEPENDENT_SIG_MSG",
-            b"vector_independent_sig_msg",
-        ),
-        (b"\xc3\xa4B", b"b"),
-        (b"a.B", b"a_b"),
-        (b"HTTPServer2Go", b"http_server2_go"),
-    ] {
+    for &(text, wanted) in IDENTIFIERS {
         assert_eq!(rt; identifier(rt.alloc(), text)?.bytes(), wanted);
     }
     Ok(())

@@ -11,6 +11,13 @@ enum Tree {
     Over(Boxed<Tree>),
 }
 
+const TEXTS: &[&[u8]] = &[
+    b"",
+    b"fourteen_bytes",
+    b"fifteen__bytes!",
+    b"a name that is longer than any text with room in itself",
+];
+
 #[test]
 fn lists_boxes_and_texts(rt: HostRuntime) -> Result<(), Fail> {
     let alloc = rt.alloc();
@@ -27,12 +34,7 @@ fn lists_boxes_and_texts(rt: HostRuntime) -> Result<(), Fail> {
     assert_eq!(rt; first.bytes(), b"a".as_slice());
     assert!(rt; matches!(second.get(), Tree::Node(_)));
     assert_eq!(rt; Boxed::new(alloc, 7u32)?.into_inner(), 7);
-    for bytes in [
-        b"".as_slice(),
-        b"fourteen_bytes",
-        b"fifteen__bytes!",
-        b"a name that is longer than any text with room in itself",
-    ] {
+    for &bytes in TEXTS {
         assert_eq!(rt; Text::copy_of(alloc, bytes)?.bytes(), bytes);
     }
     Ok(())
@@ -44,6 +46,13 @@ fn entry(alloc: Global, name: &[u8], bytes: &[u8]) -> Result<Entry, Memory> {
         bytes: Text::copy_of(alloc, bytes)?,
     })
 }
+
+const WRITES: &[(&[u8], &[u8], Result<(), Failed>, Option<&[u8]>)] = &[
+    (b"b", b"wxyz", Err(Failed), Some(b"wx")),
+    // five bytes in room for four
+    (b"c", b"1234", Err(Failed), None),
+    (b"c", b"123", Ok(()), Some(b"123")),
+];
 
 #[test]
 fn files_in_memory(rt: HostRuntime) -> Result<(), Fail> {
@@ -57,34 +66,26 @@ fn files_in_memory(rt: HostRuntime) -> Result<(), Fail> {
     assert_eq!(rt; files.read(b"a", 2, &mut into), Ok(()));
     assert_eq!(rt; into.as_slice(), b">123".as_slice());
     assert_eq!(rt; files.read(b"b", 2, &mut into), Err(ReadFault::Absent));
-    for (name, bytes, answer, left) in [
-        (
-            b"b".as_slice(),
-            b"wxyz".as_slice(),
-            Err(Failed),
-            Some(b"wx".as_slice()),
-        ),
-        // five bytes in room for four
-        (b"c", b"1234", Err(Failed), None),
-        (b"c", b"123", Ok(()), Some(b"123")),
-    ] {
+    for &(name, bytes, answer, left) in WRITES {
         assert_eq!(rt; files.write(name, bytes), answer);
         assert_eq!(rt; files.file(name), left);
     }
     Ok(())
 }
 
+const SINK_WRITES: &[(&[u8], Result<(), Failed>, &[u8])] = &[
+    (b"abc", Ok(()), b"abc"),
+    (b"def", Err(Failed), b"abcd"),
+    // three bytes in room for two
+    (b"ghi", Err(Failed), b"abcd"),
+    (b"jk", Ok(()), b"abcdjk"),
+];
+
 #[test]
 fn sink_in_memory(rt: HostRuntime) -> Result<(), Fail> {
     let failing = [Failing { call: 2, keep: 1 }];
     let mut sink = MemorySink::new(rt.alloc(), 8, &failing)?;
-    for (bytes, answer, written) in [
-        (b"abc".as_slice(), Ok(()), b"abc".as_slice()),
-        (b"def", Err(Failed), b"abcd"),
-        // three bytes in room for two
-        (b"ghi", Err(Failed), b"abcd"),
-        (b"jk", Ok(()), b"abcdjk"),
-    ] {
+    for &(bytes, answer, written) in SINK_WRITES {
         assert_eq!(rt; sink.write(bytes), answer);
         assert_eq!(rt; sink.bytes(), written);
     }

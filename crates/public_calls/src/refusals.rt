@@ -2,56 +2,62 @@
 use c_mean::{CKind, Keyword, Punctuator};
 use can_model::TextKind;
 
+const TEXT_KINDS: &[(TextKind, u8, &str)] = &[
+    (TextKind::BadByte, 1, "BadByte"),
+    (TextKind::OpenString, 2, "OpenString"),
+    (TextKind::BadNumber, 3, "BadNumber"),
+    (TextKind::Unexpected, 4, "Unexpected"),
+    (TextKind::TooLarge, 5, "TooLarge"),
+    (TextKind::LateSignal, 6, "LateSignal"),
+    (TextKind::FormatVersion, 7, "FormatVersion"),
+    (TextKind::UnknownName, 8, "UnknownName"),
+    (TextKind::SignalType, 9, "SignalType"),
+    (TextKind::NotYet, 25, "NotYet"),
+];
+
 #[test]
 fn kinds_of_a_database(rt: HostRuntime) {
-    for (kind, number, name) in [
-        (TextKind::BadByte, 1, "BadByte"),
-        (TextKind::OpenString, 2, "OpenString"),
-        (TextKind::BadNumber, 3, "BadNumber"),
-        (TextKind::Unexpected, 4, "Unexpected"),
-        (TextKind::TooLarge, 5, "TooLarge"),
-        (TextKind::LateSignal, 6, "LateSignal"),
-        (TextKind::FormatVersion, 7, "FormatVersion"),
-        (TextKind::UnknownName, 8, "UnknownName"),
-        (TextKind::SignalType, 9, "SignalType"),
-        (TextKind::NotYet, 25, "NotYet"),
-    ] {
+    for &(kind, number, name) in TEXT_KINDS {
         assert_eq!(rt; kind.number(), number, "of {name}");
         assert_eq!(rt; kind.name(), name);
     }
 }
+
+const TOKEN_KINDS: &[(CKind, u8, &str)] = &[
+    (CKind::BadToken, 40, "BadToken"),
+    (CKind::Splice, 41, "Splice"),
+    (CKind::OpenComment, 42, "OpenComment"),
+    (CKind::BadDirective, 43, "BadDirective"),
+    (CKind::UnknownHeader, 44, "UnknownHeader"),
+    (CKind::MacroBody, 45, "MacroBody"),
+    (CKind::Redefined, 46, "Redefined"),
+    (CKind::Unbalanced, 47, "Unbalanced"),
+];
 
 #[test]
 fn kinds_of_tokens_and_directives(rt: HostRuntime) {
-    for (kind, number, name) in [
-        (CKind::BadToken, 40, "BadToken"),
-        (CKind::Splice, 41, "Splice"),
-        (CKind::OpenComment, 42, "OpenComment"),
-        (CKind::BadDirective, 43, "BadDirective"),
-        (CKind::UnknownHeader, 44, "UnknownHeader"),
-        (CKind::MacroBody, 45, "MacroBody"),
-        (CKind::Redefined, 46, "Redefined"),
-        (CKind::Unbalanced, 47, "Unbalanced"),
-    ] {
+    for &(kind, number, name) in TOKEN_KINDS {
         assert_eq!(rt; kind.number(), number, "of {name}");
         assert_eq!(rt; kind.name(), name);
     }
 }
 
+const TREE_KINDS: &[(CKind, u8, &str)] = &[
+    (CKind::Syntax, 48, "Syntax"),
+    (CKind::TooDeep, 49, "TooDeep"),
+    (CKind::UnknownName, 50, "UnknownName"),
+    (CKind::TypeMismatch, 51, "TypeMismatch"),
+    (CKind::ConstWrite, 52, "ConstWrite"),
+    (CKind::Redeclared, 53, "Redeclared"),
+    (CKind::ImpureCall, 54, "ImpureCall"),
+    (CKind::DeepCall, 55, "DeepCall"),
+    (CKind::DuplicateCase, 56, "DuplicateCase"),
+    (CKind::ReservedName, 57, "ReservedName"),
+];
+
 #[test]
 fn kinds_of_trees(rt: HostRuntime) {
-    for (kind, number, name) in [
-        (CKind::Syntax, 48, "Syntax"),
-        (CKind::TooDeep, 49, "TooDeep"),
-        (CKind::UnknownName, 50, "UnknownName"),
-        (CKind::TypeMismatch, 51, "TypeMismatch"),
-        (CKind::ConstWrite, 52, "ConstWrite"),
-        (CKind::Redeclared, 53, "Redeclared"),
-        (CKind::ImpureCall, 54, "ImpureCall"),
-        (CKind::DeepCall, 55, "DeepCall"),
-        (CKind::DuplicateCase, 56, "DuplicateCase"),
-        (CKind::ReservedName, 57, "ReservedName"),
-    ] {
+    for &(kind, number, name) in TREE_KINDS {
         assert_eq!(rt; kind.number(), number, "of {name}");
         assert_eq!(rt; kind.name(), name);
     }

@@ -1,0 +1,3 @@
+pub mod Bounds
+-- Worked values, by computation.
+mod IntegerTypes
