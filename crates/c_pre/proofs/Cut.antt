@@ -1,5 +1,5 @@
 -- A file's tokens, cut into lines.
-use Rattle.std.proofs.Common.{◌≡◌, ℕ, suc, ◌+◌, ◌<◌, ◌≤◌, Bool, true, false, cond, ◌&&◌, not, codes, List, [], ◌∷◌, ◌++◌, map, length, get_or, take, drop, Option, Some, None, refl, sym, ap, ◌∙◌, arith, append_assoc}
+use Rattle.std.proofs.Common.{◌≡◌, ℕ, suc, ◌+◌, ◌≤◌, Bool, true, false, cond, ◌&&◌, not, codes, List, [], ◌∷◌, ◌++◌, map, length, get_or, take, drop, Option, Some, None, refl, sym, ap, ◌∙◌, arith, append_assoc}
 use Rattle.std.proofs.lemmas.List.{map-append}
 use Rattle.std.specs.List.{prefix_len}
 use Rattle.c_text.specs.declared.place.Place.{Place}
@@ -10,17 +10,18 @@ use Rattle.c_text.specs.StandardHeader.{is_mark}
 use Rattle.c_pre.specs.declared.line.Line.{Line as CodeLine}
 use Rattle.c_pre.proofs.Seen.{unjoined_seen}
 use Rattle.c_pre.specs.Shown.{flats, shown, unjoined, told, starts_line, before_cut, cut}
+use Rattle.c_pre.specs.Merging.{begins_directive, is_directive, merged}
 
 -- ---- one line at a time
 
 -- how many tokens of the line follow its first
-abbrev more : List Token → ℕ
+abbrev pub more : List Token → ℕ
 more ts = prefix_len (λ t. not t.fresh) ts
 
-one-more : (n : ℕ) → 1 + n ≡ suc n
+pub one-more : (n : ℕ) → 1 + n ≡ suc n
 one-more n = omega arith
 
-cut-first : (t : Token) (ts : List Token) → cut (t ∷ ts) ≡ (t ∷ take (more ts) ts) ∷ cut (drop (more ts) ts)
+pub cut-first : (t : Token) (ts : List Token) → cut (t ∷ ts) ≡ (t ∷ take (more ts) ts) ∷ cut (drop (more ts) ts)
 cut-first t [] = refl
 cut-first t (u ∷ us) = by u.fresh refl (cut-first u us)
   where
@@ -30,10 +31,6 @@ cut-first t (u ∷ us) = by u.fresh refl (cut-first u us)
         (λ i. before_cut (f i) t (e i))
         ∙ ap (λ n. (t ∷ take n (u ∷ us)) ∷ cut (drop n (u ∷ us))) (sym (one-more (more us)))
         ∙ sym (ap (λ b. (t ∷ take (cond (not b) (1 + more us) 0) (u ∷ us)) ∷ cut (drop (cond (not b) (1 + more us) 0) (u ∷ us))) f)
-
-pub cut-line : (ts : List Token) (n : ℕ) → 0 < length ts → n ≡ 1 + prefix_len (λ t. not t.fresh) (drop 1 ts) → cut ts ≡ take n ts ∷ cut (drop n ts)
-cut-line [] n h e = absurd (omega arith)
-cut-line (t ∷ ts) n h e = cut-first t ts ∙ ap (λ m. take m (t ∷ ts) ∷ cut (drop m (t ∷ ts))) (sym (e ∙ one-more (more ts)))
 
 -- ---- tokens seen
 
@@ -82,17 +79,22 @@ lines-told beside ts = ap (λ ls. map unjoined (map (line_of beside) ls)) (lines
 
 -- ---- the code's loop
 
-pub text-told : (beside : Option (List ℕ)) (ts : List Token) (x : Token) → 1 ≤ length ts → x ≡ get_or ts 0 x → (x.fresh && is_mark (codes "#") x.kind) ≡ false → text (flats ts) ≡ told beside ts
-text-told beside [] x h e f = absurd (omega arith)
-text-told beside (t ∷ ts) x h e f =
-    sym (ap (λ b. unjoined (cond b (directive beside t.place (seen_behind (Some t.place.end) ts)) (text (seen_behind None (t ∷ ts))))) (ap (λ (u : Token). u.fresh && is_mark (codes "#") u.kind) (sym e) ∙ f)
-    ∙ ap text (unjoined_seen None (t ∷ ts)))
+-- a line that is no directive
+pub told-text : (beside : Option (List ℕ)) (ts : List Token) → is_directive ts ≡ false → told beside ts ≡ text (flats ts)
+told-text beside [] h = refl
+told-text beside (t ∷ ts) h =
+    ap (λ b. unjoined (cond b (directive beside t.place (seen_behind (Some t.place.end) ts)) (text (seen_behind None (t ∷ ts))))) h
+    ∙ ap text (unjoined_seen None (t ∷ ts))
 
-pub line-on : (beside : Option (List ℕ)) (lines : List CodeLine) (line : CodeLine) (ls : List Token) (n : ℕ) (front back : List Token) (all : List (Line Place)) → 0 < length ls → n ≡ 1 + prefix_len (λ t. not t.fresh) (drop 1 ls)
-    → front ≡ take n ls → back ≡ drop n ls → shown line ≡ told beside front → map shown lines ++ map (told beside) (cut ls) ≡ all → map shown (lines ++ line ∷ []) ++ map (told beside) (cut back) ≡ all
-line-on beside lines line ls n front back all h e f b is told_so =
-    ap (λ xs. xs ++ map (told beside) (cut back)) (map-append shown lines (line ∷ []))
-    ∙ append_assoc (map shown lines) (shown line ∷ []) (map (told beside) (cut back))
-    ∙ (λ i. map shown lines ++ (is ∙ ap (told beside) f) i ∷ map (told beside) (cut (b i)))
-    ∙ ap (λ xs. map shown lines ++ map (told beside) xs) (sym (cut-line ls n h e))
+pub text-told : (beside : Option (List ℕ)) (ts : List Token) (x : Token) → 1 ≤ length ts → x ≡ get_or ts 0 x → begins_directive x ≡ false → text (flats ts) ≡ told beside ts
+text-told beside [] x h e b = absurd (omega arith)
+text-told beside (t ∷ ts) x h e b = sym (told-text beside (t ∷ ts) (ap begins_directive (sym e) ∙ b))
+
+pub line-on : (beside : Option (List ℕ)) (lines : List CodeLine) (line : CodeLine) (ls : List Token) (n : ℕ) (front back : List Token) (all : List (Line Place)) → merged (cut ls) ≡ take n ls ∷ merged (cut (drop n ls))
+    → front ≡ take n ls → back ≡ drop n ls → shown line ≡ told beside front → map shown lines ++ map (told beside) (merged (cut ls)) ≡ all → map shown (lines ++ line ∷ []) ++ map (told beside) (merged (cut back)) ≡ all
+line-on beside lines line ls n front back all first f b is told_so =
+    ap (λ xs. xs ++ map (told beside) (merged (cut back))) (map-append shown lines (line ∷ []))
+    ∙ append_assoc (map shown lines) (shown line ∷ []) (map (told beside) (merged (cut back)))
+    ∙ (λ i. map shown lines ++ (is ∙ ap (told beside) f) i ∷ map (told beside) (merged (cut (b i))))
+    ∙ ap (λ xs. map shown lines ++ map (told beside) xs) (sym first)
     ∙ told_so

@@ -3,6 +3,8 @@ pub mod Tables
 pub mod Angled
 pub mod Whole
 pub mod Cut
+pub mod Merging
+pub mod Alike
 pub mod Bodies
 pub mod Unjoined
 pub mod Names

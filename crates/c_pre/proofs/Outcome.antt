@@ -17,8 +17,10 @@ use Rattle.c_text.specs.Conditional.{balanced, is_read, left_by, reads_behind, r
 use Rattle.c_text.specs.Preprocessing.{header_lines, each_behind, Fault as PlacedFault, unless_same, faults_at, NamedBody, macros_at, tokens_at, unless_fault, macro_of, placed_left, preprocessed}
 use Rattle.c_text.proofs.Group.{each_behind-append}
 use Rattle.c_pre.specs.Shown.{unjoined, told, cut}
+use Rattle.c_pre.specs.Merging.{merged}
 use Rattle.c_pre.specs.Run.{Progress, nothing_left, with_header, written, redefined, defined, taken, passed, reads_then, ran, ran_header}
 use Rattle.c_pre.proofs.Cut.{lines-told}
+use Rattle.c_pre.proofs.Alike.{merged-alike}
 use Rattle.c_pre.proofs.Unjoined.{balanced-unjoined}
 use Rattle.c_pre.proofs.Names.{headers_of, headers_of-append, open_body, open_macro, macros_of, look-macros, is_macro-look, same_body-open, written-behind, macros-kept}
 
@@ -169,17 +171,20 @@ placed (f ∷ fs) ls = refl
 
 -- a file's lines in the code
 abbrev pub file_lines : Option (List ℕ) → List Token → List (Line Place)
-file_lines beside ts = balanced [] (map (told beside) (cut ts))
+file_lines beside ts = balanced [] (map (told beside) (merged (cut ts)))
 
-file-lines : (beside : Option (List ℕ)) (ts : List Token) → file_lines beside ts ≡ map unjoined (balanced [] (lines_of beside (seen_behind None ts)))
-file-lines beside ts = ap (balanced []) (sym (lines-told beside ts)) ∙ balanced-unjoined [] (lines_of beside (seen_behind None ts))
+-- they leave what the definition's lines leave
+file-lines : (beside : Option (List ℕ)) (ts : List Token) (q : Progress → Result Progress Refusal) (s : Progress) → ran q [] s (file_lines beside ts) ≡ ran q [] s (map unjoined (balanced [] (lines_of beside (seen_behind None ts))))
+file-lines beside ts q s =
+    (merged-alike beside (cut ts)).runs q [] [] s
+    ∙ ap (ran q [] s) (ap (balanced []) (sym (lines-told beside ts)) ∙ balanced-unjoined [] (lines_of beside (seen_behind None ts)))
 
 nothing-included : Includes (λ s. Ok s) (λ ls. [])
 nothing-included before = nothing-more before
 
 header-included : (header : List Token) → Includes (ran_header (file_lines None header)) (header_lines (seen_behind None header))
 header-included header before =
-    ap (ran (λ s. Ok s) [] (progress_of before)) (file-lines None header)
+    file-lines None header (λ s. Ok s) (progress_of before)
     ∙ ran-is (λ s. Ok s) (λ ls. []) nothing-included [] before (balanced [] (lines_of None (seen_behind None header)))
 
 pub expanded : (header : List Token) (name : List ℕ) (source : List Token)
@@ -188,7 +193,7 @@ expanded header name source =
     let hs = seen_behind None header in
     let ls = balanced [] (lines_of (Some name) (seen_behind None source)) in
     let all = read_lines (header_lines hs) [] [] ls in
-    ap (λ r. r >>= finished) (ap (ran (ran_header (file_lines None header)) [] nothing_left) (file-lines (Some name) source)
+    ap (λ r. r >>= finished) (file-lines (Some name) source (ran_header (file_lines None header)) nothing_left
     ∙ ran-is (ran_header (file_lines None header)) (header_lines hs) (header-included header) [] [] ls)
     ∙ placed (each_behind faults_at [] all) all
 

@@ -5,6 +5,7 @@ ghost use Rattle.std.specs.Option.{option_map, option_copied};
 ghost use Rattle.c_text.specs.SeenToken.{seen_behind};
 ghost use Rattle.c_text.specs.Directive as mean;
 ghost use Rattle.c_pre.specs.Shown.{keyword_shown, kinds, unjoined, shown, told};
+ghost use Rattle.c_pre.specs.Merging as merging;
 
 use crate::line::Line;
 use crate::standard::{header_of, is_mark, is_word};
@@ -42,13 +43,20 @@ fn keyword_of(kind: &TokenKind) -> Option<Keyword>
     }
 }
 
+/// Whether this is the first token of a directive.
+pub fn begins_directive(token: &Token) -> bool
+    ensures { result ≡ merging.begins_directive token.now }
+{
+    token.fresh && is_mark(&token.kind, b"#")
+}
+
 /// The line with these tokens, of a file in which a quoted include may name the header beside it.
 pub fn line_of<'a>(beside: Option<&[u8]>, tokens: &'a [Token]) -> Line<'a>
     ensures { shown result ≡ told (option_copied beside.entry) tokens.now }
 {
     match tokens {
         [first, rest @ ..] => {
-            if first.fresh && is_mark(&first.kind, b"#") {
+            if begins_directive(first) {
                 directive(beside, first.place, rest)
             } else {
                 Line::Text(tokens)

@@ -5,6 +5,7 @@ ghost use Rattle.c_text.specs.Refusal.{Gives};
 ghost use Rattle.c_text.specs.Preprocessing.{preprocessed};
 ghost use Rattle.c_text.specs.Conditional as mean;
 ghost use Rattle.c_pre.specs.Shown.{told, cut};
+ghost use Rattle.c_pre.specs.Merging.{merged};
 ghost use Rattle.c_pre.specs.Parts.{lines_in, KnowEnds};
 
 use crate::balancing::balanced;
@@ -50,7 +51,7 @@ fn lines_of_file<'a>(
     beside: Option<&[u8]>,
     tokens: &'a [Token],
 ) -> Result<Vec<FileLine<'a>>, Memory>
-    ensures lines { IfOk result (λ v. lines_in v.items ≡ mean.balanced [] (map (told (option_copied beside.entry)) (cut tokens.now))) }
+    ensures lines { IfOk result (λ v. lines_in v.items ≡ mean.balanced [] (map (told (option_copied beside.entry)) (merged (cut tokens.now)))) }
     ensures ends { IfOk result (λ v. KnowEnds v.items) }
 {
     let lines = lines_of(alloc, beside, tokens)?;

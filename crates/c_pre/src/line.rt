@@ -17,7 +17,7 @@ pub enum Header {
 /// What a line is, with the place of the `#` of a directive that may be refused.
 #[derive(Clone, Copy, Debug)]
 pub enum Line<'a> {
-    /// Tokens that are no directive.
+    /// Tokens that are no directive, of one line or of several adjacent ones.
     Text(&'a [Token]),
     /// An include of a standard header.
     Standard(Header),
