@@ -1,61 +1,14 @@
 -- What a place in a unit knows, item by item.
-use Rattle.std.proofs.Common.{◌≡◌, ℕ, ◌+◌, ◌<◌, Bool, true, false, cond, List, [], ◌∷◌, ◌++◌, length, drop, get_or, bytes_eq, Option, Some, None, refl, sym, ap, ◌∙◌, append_assoc, append-nil}
-use Rattle.std.specs.Option.{option_map}
-use Rattle.std.proofs.lemmas.Slice.Eq.{bytes_eq-Decides}
+use Rattle.std.proofs.Common.{◌≡◌, ℕ, ◌+◌, ◌<◌, Bool, List, [], ◌∷◌, ◌++◌, length, drop, get_or, refl, sym, ap, ◌∙◌, append_assoc, append-nil}
 use Rattle.c_tree.specs.declared.item.Item.{Item}
 use Rattle.c_tree.specs.declared.item.Item.TheVariants as item
 use Rattle.cg_out.specs.Words.{or_else, look_up}
-use Rattle.cg_out.proofs.WordLaws.{or_else-none, or_else-assoc, or_else-map}
+use Rattle.cg_out.proofs.WordLaws.{or_else-assoc}
+use Rattle.name_table.specs.Adds.{Adds}
+use Rattle.name_table.proofs.Adding.{look_up-append}
 use Rattle.c_widths.specs.DataModel.{DataModel}
 use Rattle.c_types.specs.Setting.{Setting, setting, structs, functions, definitions, definition, callings, calling}
-use Rattle.c_types.specs.Behind.{first_named, behind_item, Adds}
-
--- ---- tables
-
-module _ {A : Type 0} where
-  step : (b : Bool) (a : A) (u v w : Option A) → u ≡ or_else v w → cond b (Some a) u ≡ or_else (cond b (Some a) v) w
-  step true a u v w h = refl
-  step false a u v w h = h
-
-  pub look_up-append : (name : List ℕ) (xs ys : List (List ℕ × A)) → look_up name (xs ++ ys) ≡ or_else (look_up name xs) (look_up name ys)
-  look_up-append name [] ys = refl
-  look_up-append name (x ∷ xs) ys = step (bytes_eq x.0 name) x.1 (look_up name (xs ++ ys)) (look_up name xs) (look_up name ys) (look_up-append name xs ys)
-
-  -- a value at the end
-  pub adds-last : (old : List (List ℕ × A)) (e : List ℕ × A) → Adds old (e ∷ []) (old ++ e ∷ [])
-  adds-last old e name = look_up-append name old (e ∷ [])
-
-  -- a name that has a value keeps it
-  pub adds-none : (old : List (List ℕ × A)) (name : List ℕ) (kept value : A) → look_up name old ≡ Some kept → Adds old ((name, value) ∷ []) old
-  adds-none old name kept value h n = by (look_up n old) refl
-    where
-      other : (b : Bool) → bytes_eq name n ≡ b → look_up n old ≡ None → None ≡ cond b (Some value) None
-      other false e none = refl
-      other true e none = let f : Some kept ≡ None = sym h ∙ ap (λ m. look_up m old) ((bytes_eq-Decides name n).0 e) ∙ none in cc
-
-      by : (o : Option A) → look_up n old ≡ o → o ≡ or_else o (look_up n ((name, value) ∷ []))
-      by (Some x) e = refl
-      by None e = other (bytes_eq name n) refl e
-
-  -- no more names
-  pub adds-nothing : (old : List (List ℕ × A)) → Adds old [] old
-  adds-nothing old name = sym (or_else-none (look_up name old))
-
-module _ {A B : Type 0} (g : A → B) where
-  pub look_up-one : (name n : List ℕ) (a : A) → option_map g (look_up name ((n, a) ∷ [])) ≡ look_up name ((n, g a) ∷ [])
-  look_up-one name n a = by (bytes_eq n name)
-    where
-      by : (b : Bool) → option_map g (cond b (Some a) None) ≡ cond b (Some (g a)) None
-      by true = refl
-      by false = refl
-
-  -- seen by what they stand for
-  pub adds-shown : (old new : List (List ℕ × A)) (n : List ℕ) (a : A) → Adds old ((n, a) ∷ []) new
-      → (name : List ℕ) → option_map g (look_up name new) ≡ first_named (λ m. option_map g (look_up m old)) ((n, g a) ∷ []) name
-  adds-shown old new n a adds name =
-      ap (option_map g) (adds name)
-      ∙ sym (or_else-map g (look_up name old) (look_up name ((n, a) ∷ [])))
-      ∙ ap (or_else (option_map g (look_up name old))) (look_up-one name n a)
+use Rattle.c_types.specs.Behind.{behind_item}
 
 -- ---- the names of items in a row
 

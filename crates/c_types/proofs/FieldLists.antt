@@ -1,11 +1,16 @@
 -- Fields and parameters in a row.
-use Rattle.std.proofs.Common.{◌≡◌, ◌&&◌, false, ℕ, ◌+◌, ◌<◌, List, [], ◌∷◌, ◌++◌, length, drop, get_or, refl, sym, ap, ◌∙◌, arith, append_assoc}
+use Rattle.std.proofs.Common.{◌≡◌, ◌&&◌, false, ℕ, ◌+◌, ◌<◌, List, [], ◌∷◌, ◌++◌, length, drop, get_or, bytes_eq, Option, refl, sym, ap, ◌∙◌, arith, append_assoc}
 use Rattle.std.proofs.Math.Bool.{and-false}
+use Rattle.std.specs.Option.{option_and_then}
+use Rattle.std.specs.Prelude.{position}
 use Rattle.c_text.specs.Refusal.{Refusal}
+use Rattle.c_tree.specs.declared.item.CType.{CType}
 use Rattle.c_tree.specs.declared.item.Field.{Field}
 use Rattle.c_types.specs.Scope.{Declared}
 use Rattle.c_types.specs.Setting.{Setting, declared_by}
+use Rattle.c_types.specs.FieldNamed.{numbered, field_named}
 use Rattle.c_types.specs.UnitTypes.{same_field, same_fields, field_faults, fields_in_order}
+use Rattle.name_table.proofs.Tables.{position-map}
 use Rattle.c_types.proofs.Sequences.{front}
 
 pub same_fields-longer : (fs gs : List Field) → (length fs ≡ length gs → ⊥) → same_fields fs gs ≡ false
@@ -39,3 +44,13 @@ declares-step list i f table next h is declares left =
     ∙ append_assoc table (declared_by (f ∷ [])) (declared_by (drop (i + 1) list))
     ∙ ap (λ fs. table ++ declared_by fs) (sym (front list i f h is))
     ∙ left
+
+-- a field stands where its name does among the declared ones
+pub position-declared : (name : List ℕ) (fields : List Field) → position (λ e. bytes_eq name e.0) (declared_by fields) ≡ position (λ f. bytes_eq name f.name) fields
+position-declared name fields = position-map (λ (f : Field). (f.name, f.kind)) (λ e. bytes_eq name e.0) fields
+
+-- so the place among the names finds it
+pub field_named-place : (name : List ℕ) (fields : List Field) (table : Declared) (place : Option ℕ) → table ≡ declared_by fields → place ≡ position (λ e. bytes_eq name e.0) table
+    → field_named name fields ≡ option_and_then (numbered fields) place
+field_named-place name fields table place same is =
+    ap (option_and_then (numbered fields)) (sym (is ∙ ap (position (λ (e : List ℕ × CType). bytes_eq name e.0)) same ∙ position-declared name fields))

@@ -1,4 +1,3 @@
-pub mod Tables
 pub mod Verdicts
 pub mod Arguments
 pub mod Sequences

@@ -1,12 +1,8 @@
 -- What an item adds to what a place knows.
-use Rattle.std.specs.Prelude.{◌≡◌, ℕ, List, [], ◌∷◌, Option}
+use Rattle.std.specs.Prelude.{[], ◌∷◌}
 use Rattle.c_tree.specs.declared.item.Item.{Item}
-use Rattle.cg_out.specs.Words.{or_else, look_up}
+use Rattle.name_table.specs.Adds.{first_named}
 use Rattle.c_types.specs.Setting.{Setting, structs, functions, definitions}
-
--- what is known of a name, or else what these say of it
-abbrev pub first_named : {A : Type 0} → (List ℕ → Option A) → List (List ℕ × A) → List ℕ → Option A
-first_named known more name = or_else (known name) (look_up name more)
 
 abbrev pub behind_item : Item → Setting → Setting
 behind_item i s = record {
@@ -16,7 +12,3 @@ behind_item i s = record {
   defined = first_named s.defined (definitions (i ∷ []));
   calls = s.calls;
 }
-
--- of names that have no value yet these get theirs
-abbrev pub Adds : {A : Type 0} → List (List ℕ × A) → List (List ℕ × A) → List (List ℕ × A) → Type 0
-Adds old more new = (name : List ℕ) → look_up name new ≡ first_named (λ n. look_up n old) more name

@@ -9,9 +9,9 @@ use Rattle.c_types.specs.UnitTypes.{faults_under}
 use Rattle.cg_out.specs.Words.{◌>>=◌}
 
 -- without a fault of types under every model, or the first of all
-abbrev pub typed_unit : Whole → Result Whole Refusal
-typed_unit unit = unless_refused (faults_under models unit) unit
+abbrev pub unit_without_fault : Whole → Result Whole Refusal
+unit_without_fault unit = unless_refused (faults_under models unit) unit
 
 -- the header is known to the source under this name
 abbrev pub typed_texts : List ℕ → List ℕ → List ℕ → Result Whole Refusal
-typed_texts header name source = unit_of_texts header name source >>= typed_unit
+typed_texts header name source = unit_of_texts header name source >>= unit_without_fault

@@ -7,9 +7,9 @@ pub mod ExpressionTypes
 pub mod SwitchLabels
 pub mod StatementTypes
 pub mod UnitTypes
+pub mod FieldNamed
 pub mod FirstFault
 -- What the functions inside promise each other.
-pub mod Entries
 pub mod Blocks
 pub mod Verdict
 pub mod Shown

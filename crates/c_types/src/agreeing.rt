@@ -1,8 +1,8 @@
 //! Declarations that agree: equal but for their places (ISO/IEC 9899:1999, 6.2.7 and 6.7).
 ghost use Rattle.std.specs.Prelude.{◌≡◌};
 ghost use Rattle.c_text.specs.MacroDefinition as tokens;
+ghost use Rattle.name_table.specs.Entries.{lent};
 ghost use Rattle.c_types.specs.UnitTypes as spec;
-ghost use Rattle.c_types.specs.Entries.{lent};
 
 use c_mean::{CType, Field, Function, Spelled, Target};
 

@@ -1,13 +1,13 @@
 //! The faults of items (ISO/IEC 9899:1999, the constraints of 6.7.2.1, 6.7.5.3 and 6.9).
 ghost use Rattle.std.specs.Prelude.{◌≡◌, [], ◌∷◌, ◌++◌, OnOk, IfOk};
 ghost use Rattle.c_tree.specs.declared.item.Item.TheVariants as spec_item;
+ghost use Rattle.name_table.specs.Entries.{lent};
 ghost use Rattle.c_widths.specs.DataModel.{IsModel};
 ghost use Rattle.c_types.specs.ExpressionTypes.{tag_of};
 ghost use Rattle.c_types.specs.Scope.{behind};
 ghost use Rattle.c_types.specs.Setting.{declared_by};
 ghost use Rattle.c_types.specs.UnitTypes as spec;
 ghost use Rattle.c_types.specs.Behind.{behind_item};
-ghost use Rattle.c_types.specs.Entries.{lent};
 ghost use Rattle.c_types.specs.Shown.{setting_of};
 ghost use Rattle.c_types.specs.Verdict.{Passes};
 
@@ -17,9 +17,9 @@ use crate::local::{Scopes, declare_in, is_reserved};
 use crate::named_type::{NamedType, tag_of};
 use crate::refusing::refuse_if;
 use crate::statements::in_order;
-use crate::table::Table;
 use c_mean::{CFault, CKind, CType, Field, Function, Item, Stmt, Struct};
 use cg_out::List;
+use name_table::Table;
 use std::alloc::Global;
 
 /// Whether a type names a struct that is not declared before.

@@ -1,11 +1,11 @@
 //! The faults of an expression (ISO/IEC 9899:1999, the constraints of 6.5).
 ghost use Rattle.std.specs.Prelude.{◌≡◌, ℕ, length};
 ghost use Rattle.c_text.specs.declared.place.Place.{Place};
+ghost use Rattle.name_table.specs.Entries.{lent};
 ghost use Rattle.c_widths.specs.ConstantType.{constant_type};
 ghost use Rattle.c_widths.specs.DataModel.{IsModel, model_of};
 ghost use Rattle.c_types.specs.ExpressionTypes as spec;
 ghost use Rattle.c_types.specs.Scope.{type_named};
-ghost use Rattle.c_types.specs.Entries.{lent};
 ghost use Rattle.c_types.specs.Shown.{setting_of};
 ghost use Rattle.c_types.specs.Verdict.{Passes, Sees, wanted_shown, sort_shown};
 

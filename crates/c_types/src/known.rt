@@ -2,18 +2,19 @@
 ghost use Rattle.std.specs.Prelude.{◌≡◌, [], ◌∷◌, OnOk, IfOk};
 ghost use Rattle.std.specs.Option.{option_map};
 ghost use Rattle.c_tree.specs.declared.item.Item.TheVariants as spec_item;
+ghost use Rattle.name_table.specs.Adds.{Adds};
+ghost use Rattle.name_table.specs.Entries.{lent};
 ghost use Rattle.c_widths.specs.DataModel.{model_of};
 ghost use Rattle.c_types.specs.Setting.{setting, callings, declared_by};
-ghost use Rattle.c_types.specs.Entries.{lent};
-ghost use Rattle.c_types.specs.Behind.{Adds, behind_item};
+ghost use Rattle.c_types.specs.Behind.{behind_item};
 ghost use Rattle.c_types.specs.Shown.{setting_of};
 
 use crate::calling::some_calls;
 use crate::fields::Fields;
 use crate::named_type::NamedType;
-use crate::table::Table;
 use c_mean::{Function, Item, Struct};
 use cg_out::Memory;
+use name_table::Table;
 use std::alloc::Global;
 
 /// What is known of the items before a place.

@@ -20,7 +20,6 @@ mod named_type;
 mod refusing;
 mod statement;
 mod statements;
-mod table;
 mod typed_unit;
 
 pub use c_widths::Widths;

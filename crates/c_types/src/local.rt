@@ -1,15 +1,15 @@
 //! Names that are declared inside functions (ISO/IEC 9899:1999, 6.2.1).
 ghost use Rattle.std.specs.Prelude.{◌≡◌, None, [], ◌∷◌, ◌++◌, OnOk};
 ghost use Rattle.c_tree.specs.declared.item.CType.TheVariants.{Integer};
+ghost use Rattle.name_table.specs.Entries.{lent};
 ghost use Rattle.c_types.specs.Scope as spec;
-ghost use Rattle.c_types.specs.Entries.{lent};
 ghost use Rattle.c_types.specs.Blocks.{closed};
 ghost use Rattle.c_types.specs.Verdict.{Passes};
 
 use crate::named_type::NamedType;
-use crate::table::Table;
 use c_mean::{CFault, CKind, Place, Spelled};
 use cg_out::Memory;
+use name_table::Table;
 use std::alloc::Global;
 use std::marker::Model;
 use std::mem;

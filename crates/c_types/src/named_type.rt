@@ -1,10 +1,10 @@
 //! The types of names.
 ghost use Rattle.std.specs.Prelude.{◌≡◌};
 ghost use Rattle.c_tree.specs.declared.item.CType.TheVariants.{Integer};
+ghost use Rattle.name_table.specs.Entries.{lent};
 ghost use Rattle.c_widths.specs.DataModel.{model_of};
 ghost use Rattle.c_types.specs.ExpressionTypes as spec;
 ghost use Rattle.c_types.specs.StatementTypes.{points_to_const};
-ghost use Rattle.c_types.specs.Entries.{lent};
 ghost use Rattle.c_types.specs.Verdict.{Passes, sort_shown};
 
 use crate::refusing::{Sort, mismatch};

@@ -5,12 +5,13 @@ ghost use Rattle.std.specs.Option.{option_map};
 ghost use Rattle.c_text.specs.Refusal.{Gives};
 ghost use Rattle.c_tree.specs.contracts.statement.StmtKind as kind;
 ghost use Rattle.cg_out.specs.Words.{look_up};
+ghost use Rattle.name_table.specs.Entries.{lent};
 ghost use Rattle.c_widths.specs.DataModel.{IsModel, model_of, models};
 ghost use Rattle.c_types.specs.Setting.{setting, structs, definitions};
 ghost use Rattle.c_types.specs.TypeFault.{unless_refused};
 ghost use Rattle.c_types.specs.UnitTypes.{unit_faults, items_in_order, faults_under};
-ghost use Rattle.c_types.specs.FirstFault.{typed_unit};
-ghost use Rattle.c_types.specs.Entries.{lent};
+ghost use Rattle.c_types.specs.FieldNamed.{field_in};
+ghost use Rattle.c_types.specs.FirstFault.{unit_without_fault};
 ghost use Rattle.c_types.specs.Shown.{setting_of};
 ghost use Rattle.c_types.specs.Verdict.{Passes};
 
@@ -53,19 +54,27 @@ impl<'a, const INT: u32, const LONG: u32, const PTR: u32> TypedUnit<'a, INT, LON
 
     /// The definition of a function, or none where the unit has none of that name.
     pub fn prototype(&self, function: &[u8]) -> Option<&Function>
-        ensures { lent result ≡ look_up function.now (definitions self.now.items) }
+        ensures found { lent result ≡ look_up function.now (definitions self.now.items) }
     {
         self.known.defined(function)
     }
 
     /// The fields of a struct, or none where the unit has none of that tag.
     pub fn fields(&self, tag: &[u8]) -> Option<&[Field]>
-        ensures { lent result ≡ look_up tag.now (structs self.now.items) }
+        ensures found { lent result ≡ look_up tag.now (structs self.now.items) }
     {
         match self.known.fields(tag) {
             Some(fields) => Some(fields.list),
             None => None,
         }
+    }
+
+    /// The field of a name in the struct of a tag, with its number in the struct, counted from 0
+    /// (6.5.2.3).
+    pub fn field(&self, tag: &[u8], name: &[u8]) -> Option<(usize, &Field)>
+        ensures found { option_map (λ f. (f.0, f.1.now)) result ≡ field_in tag.now name.now (structs self.now.items) }
+    {
+        self.known.fields(tag)?.numbered(name)
     }
 }
 
@@ -90,7 +99,7 @@ pub fn typed<'a, const INT: u32, const LONG: u32, const PTR: u32>(
 /// The first fault of a unit under each model of the list in turn, if there is one.
 #[tactic(auto, using(crate::proofs::Verdicts::passes_gives))]
 pub fn check(alloc: Global, unit: &Unit) -> Result<(), CFault>
-    ensures exact { Gives (λ _. unit.now) result (typed_unit unit.now) }
+    ensures exact { Gives (λ _. unit.now) result (unit_without_fault unit.now) }
 {
     check_models(alloc, unit)
 }

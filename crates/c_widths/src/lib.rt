@@ -9,4 +9,4 @@
 
 mod widths;
 
-pub use widths::Widths;
+pub use widths::{Widths, is_signed, power};

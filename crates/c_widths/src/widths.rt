@@ -72,9 +72,9 @@ impl<const INT: u32, const LONG: u32, const PTR: u32> Widths<INT, LONG, PTR> {
         }
     }
 
-    /// How many bits a type has.
+    /// How many bits a type has (6.2.6.2).
     #[tactic(auto, using(crate::proofs::Bounds::bounds))]
-    fn bits(kind: IntType) -> u32
+    pub fn bits(kind: IntType) -> u32
         requires { IsModel INT LONG PTR }
         ensures width { result ≡ integer.bits_of (model_of INT LONG PTR) kind }
         ensures some { 1 ≤ result }
@@ -175,7 +175,8 @@ impl<const INT: u32, const LONG: u32, const PTR: u32> Widths<INT, LONG, PTR> {
     }
 }
 
-fn is_signed(kind: IntType) -> bool
+/// Whether a type has a sign (6.2.5).
+pub fn is_signed(kind: IntType) -> bool
     ensures { result ≡ integer.is_signed kind }
 {
     matches!(
@@ -251,7 +252,8 @@ fn truth(number: i128) -> i128
     if number == 0 { 0 } else { 1 }
 }
 
-fn power(bits: u32) -> i128
+/// 2 to the power of so many bits.
+pub fn power(bits: u32) -> i128
     requires { bits ≤ 64 }
     ensures { result ≡ pos (2 ^ bits) }
 {

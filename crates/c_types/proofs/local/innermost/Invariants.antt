@@ -1,6 +1,6 @@
 use Rattle.std.proofs.Common.{◌≡◌, None, drop}
 use Rattle.c_types.specs.Scope.{innermost}
-use Rattle.c_types.specs.Entries.{lent}
+use Rattle.name_table.specs.Entries.{lent}
 use Rattle.c_types.proofs.local.innermost.Given as goal
 
 -- the blocks that are left have the answer

@@ -1,8 +1,8 @@
 use Rattle.std.proofs.Common.{[], ◌∷◌, ◌++◌, ap, ◌∙◌, map}
-use Rattle.c_types.specs.Entries.{named}
+use Rattle.name_table.specs.Entries.{named}
 use Rattle.cg_out.specs.Words.{look_up}
-use Rattle.c_types.proofs.Tables.{insert-new}
-use Rattle.c_types.proofs.table.Table.put.Goals as goal
+use Rattle.name_table.proofs.Tables.{insert-new}
+use Rattle.name_table.proofs.table.Table.put.Goals as goal
 
 pub returns : goal.returns
 returns g c =

@@ -1,8 +1,9 @@
 //! Values by names.
-ghost use Rattle.std.specs.Prelude.{◌≡◌, ◌∷◌, ◌++◌, [], None, OnOk};
+ghost use Rattle.std.specs.Prelude.{◌≡◌, ◌<◌, ◌∷◌, ◌++◌, [], None, OnOk, IfSome, is_some, bytes_eq, length, position};
 ghost use Rattle.cg_out.specs.Words.{look_up};
-ghost use Rattle.c_types.specs.Entries.{lent};
-ghost use Rattle.c_types.specs.Behind.{Adds};
+ghost use Rattle.name_table.specs.Adds.{Adds};
+ghost use Rattle.name_table.specs.Entries.{lent};
+ghost use Rattle.name_table.specs.WithValue.{with_value};
 
 use cg_out::Memory;
 use indexmap::IndexMap;
@@ -17,7 +18,7 @@ pub struct Table<'a, V> {
 
 impl<'a, V> Model for Table<'a, V> {
     ghost use Rattle.std.specs.Prelude.{ℕ, List, map};
-    ghost use Rattle.c_types.specs.Entries.{named};
+    ghost use Rattle.name_table.specs.Entries.{named};
 
     ghost Value = { List (List ℕ × V) };
 
@@ -57,5 +58,26 @@ impl<'a, V: Drop> Table<'a, V> {
             self.put(name, value)?;
         }
         Ok(())
+    }
+
+    /// The place of a name among the names, counted from 0, in the order in which they came.
+    pub fn position(&self, name: &[u8]) -> Option<usize>
+        ensures position { result ≡ position (λ e. bytes_eq name.now e.0) self.now }
+        ensures within { IfSome result (λ i. i < length self.now) }
+    {
+        self.entries.get_index_of(name)
+    }
+
+    /// Gives a name another value, where it has one.
+    pub fn replace(&mut self, name: &[u8], value: V) -> bool
+        ensures there { result ≡ is_some (look_up name.now self.old) }
+        ensures value { self.new ≡ with_value name.now value self.old }
+    {
+        if let Some(slot) = self.entries.get_mut(name) {
+            *slot = value;
+            true
+        } else {
+            false
+        }
     }
 }
