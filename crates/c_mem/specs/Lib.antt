@@ -1,0 +1,3 @@
+-- What the promises rest on.
+pub mod Cells
+pub mod Objects
