@@ -138,4 +138,5 @@ def main():
         print(f"exponent of time: {exponent(small, quick, large, slow):.2f}")
 
 
-main()
+if __name__ == "__main__":
+    main()

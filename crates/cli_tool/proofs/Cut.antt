@@ -1,13 +1,12 @@
 -- One byte more than a text may have tells as much as all bytes.
-use Rattle.std.proofs.Common.{◌≡◌, inl, inr, ℕ, ◌+◌, ◌≤◌, Bool, true, false, cond, leb, ◌&&◌, List, [], ◌∷◌, length, take, refl, sym, ap, subst, ◌∙◌, arith, length-take}
+use Rattle.std.proofs.Common.{◌≡◌, inl, inr, ℕ, ◌+◌, Bool, true, false, cond, ◌&&◌, List, [], ◌∷◌, length, take, refl, ap, ◌∙◌, arith, length-take}
 use Rattle.std.proofs.lemmas.Bool.{cases_lt}
 use Rattle.std.proofs.lemmas.List.{take_all}
 use Rattle.std.specs.Prelude.{nat_le}
 use Rattle.cg_out.specs.Outside.{FilesSeen}
-use Rattle.cli_tool.specs.World.{OfText, HasText}
-use Rattle.cli_tool.specs.Task.{Input, Task, Answer, refused, are_within, answer_of}
+use Rattle.cli_tool.specs.Task.{Input, Task, refused, are_within, answer_of}
 use Rattle.cli_tool.specs.Report.{too_large_report}
-use Rattle.cli_tool.specs.Reading.{OfTexts, HasTexts, IsRead, AreRead}
+use Rattle.cli_tool.specs.Reading.{OfTexts, HasTexts, AreRead}
 use Rattle.cli_tool.proofs.Texts.{Both, OfText-weaker, both_of_text}
 use Rattle.std.proofs.lemmas.Bool.Decides.{nat_tests}
 

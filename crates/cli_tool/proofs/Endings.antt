@@ -1,20 +1,20 @@
 -- The steps of a run, joined: what was read, what it gives, what was written and told.
-use Rattle.std.proofs.Common.{◌≡◌, inl, inr, ℕ, ◌+◌, ◌<◌, true, false, List, [], length, refl, sym, ap, subst, ◌∙◌, arith}
+use Rattle.std.proofs.Common.{◌≡◌, inl, inr, ℕ, ◌+◌, ◌<◌, true, false, List, [], length, refl, sym, subst, ◌∙◌, arith}
 use Rattle.std.specs.declared.option.Option.{Option}
 use Rattle.cg_out.specs.Outside.{Folder, FilesSeen, SinkSeen, IfTold, IsTornWrite}
 use Rattle.cli_tool.specs.World.{World, world}
-use Rattle.cli_tool.specs.Command.{Command, generate_c_source, check}
+use Rattle.cli_tool.specs.Command.{Command, generate_c_source, check, exec}
 use Rattle.cli_tool.specs.Ends.{task_of}
-use Rattle.cli_tool.specs.Task.{Task, Output, Answer, wrong_words, refused, outcome, no_task, status_of, outputs_of, report_of, answer_of}
+use Rattle.cli_tool.specs.Task.{Task, Answer, wrong_words, refused, outcome, no_task, status_of, outputs_of, report_of, answer_of}
 use Rattle.cli_tool.specs.Report.{usage_report}
-use Rattle.cli_tool.specs.Reading.{ReadsTexts, WantsMemory, HasNotAll}
+use Rattle.cli_tool.specs.Reading.{ReadsTexts, HasNotAll}
 use Rattle.cli_tool.specs.Writing.{with_outputs, Puts, WritesFiles, TearsFiles}
 use Rattle.cli_tool.specs.Telling.{Tells, Delivers}
 use Rattle.cli_tool.specs.TaskEnds.{Finds, Leaves, FailsToWrite, TaskEnds}
 use Rattle.cli_tool.specs.declared.status.Status.{Status}
 use Rattle.cli_tool.specs.declared.status.Status.TheVariants.{Done, Negative, Usage, Refused, FileFault, OutFault, NoMemory}
 use Rattle.cli_tool.proofs.Texts.{calls_sum, no_calls, Rose-earlier}
-use Rattle.cli_tool.proofs.Cut.{AreCut, of_read, answer-cut}
+use Rattle.cli_tool.proofs.Cut.{of_read, answer-cut}
 
 module _ (task : Task) (answer : Answer) (texts : List (List ℕ)) (old mid : FilesSeen) (r : ReadsTexts task.inputs texts old mid) (given : answer_of task texts ≡ answer) where
   finds : Finds task answer old
@@ -71,6 +71,7 @@ delivered task answer texts old new mid status some r given d = by_delivery d wh
 pub reads_some : (command : Command) → 0 < length (task_of command).inputs
 reads_some (generate_c_source file) = omega arith
 reads_some (check header source) = omega arith
+reads_some (exec header source model function words) = omega arith
 
 -- memory was wanting for the answer
 pub unanswered : (task : Task) (texts : List (List ℕ)) (old mid : FilesSeen) (out : SinkSeen) → 0 < length task.inputs → ReadsTexts task.inputs texts old mid → TaskEnds task (world old out) (world mid out) NoMemory

@@ -1,5 +1,5 @@
 -- What `generate_c_source` leaves in the files is a header of the text's database.
-use Rattle.std.proofs.Common.{◌≡◌, ◌⊎◌, inl, inr, ℕ, Bool, true, false, cond, List, [], ◌∷◌, ◌++◌, Result, Ok, Err, refl, sym, ap, subst, ◌∙◌}
+use Rattle.std.proofs.Common.{◌≡◌, ◌⊎◌, inl, inr, ℕ, Bool, true, false, cond, List, [], ◌∷◌, ◌++◌, Result, Ok, Err, refl, sym, subst, ◌∙◌}
 use Rattle.std.specs.Prelude.{IfSome, IsSomeAnd}
 use Rattle.std.specs.declared.option.Option.{Option}
 use Rattle.std.specs.declared.option.Option.TheVariants.{None, Some}
@@ -8,15 +8,15 @@ use Rattle.can_model.specs.Refusal.{Refusal}
 use Rattle.can_model.specs.declared.database.Database.{Database}
 use Rattle.gen_unit.specs.Header.{header_text}
 use Rattle.gen_unit.specs.HeaderMeaning.{DeclaresConstants}
-use Rattle.cg_out.specs.Outside.{Folder, FilesSeen, IfTold, IsTornWrite}
+use Rattle.cg_out.specs.Outside.{Folder, IfTold, IsTornWrite}
 use Rattle.cli_tool.specs.FileName.{database_name, header_path}
 use Rattle.cli_tool.specs.HeaderInFile.{database_in, header_of_database, header_in}
 use Rattle.cli_tool.specs.HeaderOfFile.{IsHeaderOf, OfHeader, HeaderStands}
 use Rattle.cli_tool.specs.World.{World}
 use Rattle.cli_tool.specs.Report.{too_large_report}
-use Rattle.cli_tool.specs.Task.{Output, Answer, wrong_words, refused, outcome, outputs_of, status_of, are_within, answer_of}
+use Rattle.cli_tool.specs.Task.{Output, Answer, refused, outputs_of, status_of, are_within, answer_of}
 use Rattle.cli_tool.specs.GenerateTask.{header_output, header_answer, database_input, generate_task}
-use Rattle.cli_tool.specs.Writing.{with_outputs, Puts, TearsFiles}
+use Rattle.cli_tool.specs.Writing.{with_outputs, Puts}
 use Rattle.cli_tool.specs.TaskEnds.{TaskEnds}
 use Rattle.cli_tool.specs.declared.status.Status.{Status}
 use Rattle.cli_tool.specs.declared.status.Status.TheVariants.{Done, Negative, Usage, Refused, FileFault, OutFault, NoMemory}

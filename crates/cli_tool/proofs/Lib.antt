@@ -7,3 +7,4 @@ pub mod FilesWritten
 pub mod Endings
 pub mod Comes
 pub mod Headers
+pub mod FaultlessUnits

@@ -1,5 +1,5 @@
 -- Texts that are read one after another.
-use Rattle.std.proofs.Common.{◌≡◌, ◌⊎◌, inl, inr, ℕ, zero, suc, ◌+◌, ◌<◌, ◌≤◌, List, [], ◌∷◌, ◌++◌, length, take, drop, slice_get, refl, sym, ap, subst, ◌∙◌, arith, length-take, length-append}
+use Rattle.std.proofs.Common.{◌≡◌, ◌⊎◌, inl, inr, ℕ, zero, suc, ◌+◌, ◌<◌, ◌≤◌, List, [], ◌∷◌, ◌++◌, length, take, drop, slice_get, refl, ap, subst, ◌∙◌, arith, length-take, length-append}
 use Rattle.std.specs.Prelude.{IfSome, IsSomeAnd}
 use Rattle.std.specs.declared.option.Option.{Option}
 use Rattle.std.specs.declared.option.Option.TheVariants.{None, Some}
@@ -8,7 +8,7 @@ use Rattle.std.proofs.lemmas.List.{take_all}
 use Rattle.cg_out.specs.Outside.{Folder, FilesSeen, Rose}
 use Rattle.cli_tool.specs.World.{Calls}
 use Rattle.cli_tool.specs.Task.{Input}
-use Rattle.cli_tool.specs.Reading.{IsRead, AreRead, ReadsText, ReadsTexts, FailsToRead, FailsAtInput, WantsMemory, HasNoText, HasNotAll}
+use Rattle.cli_tool.specs.Reading.{IsRead, AreRead, ReadsText, ReadsTexts, FailsToRead, WantsMemory, HasNoText, HasNotAll}
 use Rattle.cli_tool.specs.declared.status.Status.{Status}
 use Rattle.cli_tool.specs.declared.status.Status.TheVariants.{Done, Negative, Usage, Refused, FileFault, OutFault, NoMemory}
 use Rattle.cli_tool.proofs.Texts.{calls_sum, Rose-earlier}

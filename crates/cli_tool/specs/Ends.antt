@@ -3,10 +3,11 @@ use Rattle.std.specs.Prelude.{ℕ, List}
 use Rattle.std.specs.declared.option.Option.{Option}
 use Rattle.std.specs.declared.option.Option.TheVariants.{None, Some}
 use Rattle.cli_tool.specs.World.{World}
-use Rattle.cli_tool.specs.Command.{Command, generate_c_source, check, command_of}
+use Rattle.cli_tool.specs.Command.{Command, generate_c_source, check, exec, command_of}
 use Rattle.cli_tool.specs.Task.{Task, no_task}
 use Rattle.cli_tool.specs.GenerateTask.{generate_task}
 use Rattle.cli_tool.specs.CheckTask.{check_task}
+use Rattle.cli_tool.specs.ExecTask.{exec_task}
 use Rattle.cli_tool.specs.TaskEnds.{TaskEnds}
 use Rattle.cli_tool.specs.MustCome.{MustCome}
 use Rattle.cli_tool.specs.HeaderOfFile.{HeaderStands}
@@ -15,6 +16,7 @@ use Rattle.cli_tool.specs.declared.status.Status.{Status}
 abbrev pub task_of : Command → Task
 task_of (generate_c_source file) = generate_task file
 task_of (check header source) = check_task header source
+task_of (exec header source model function words) = exec_task header source model function words
 
 abbrev pub task_found : Option Command → Task
 task_found None = no_task

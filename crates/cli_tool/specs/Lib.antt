@@ -14,6 +14,8 @@ pub mod HeaderOfFile
 pub mod Command
 pub mod GenerateTask
 pub mod CheckTask
+pub mod CallArguments
+pub mod ExecTask
 pub mod Ends
 -- What the functions inside promise each other.
 pub mod Asked

@@ -4,7 +4,11 @@ ghost use Rattle.c_text.specs.Refusal.{Gives};
 ghost use Rattle.c_text.specs.Preprocessing.{preprocessed_texts};
 ghost use Rattle.c_types.specs.FirstFault.{typed_texts};
 ghost use Rattle.c_mean.specs.FirstFault.{unit_of_texts};
+ghost use Rattle.c_types.specs.UnitTypes.{faults_under};
+ghost use Rattle.c_widths.specs.DataModel.{models};
 ghost use Rattle.cli_tool.specs.CheckTask.{check_work};
+ghost use Rattle.cli_tool.specs.Report.{c_refusal_report};
+ghost use Rattle.cli_tool.specs.Task.{refused as refusal};
 ghost use Rattle.cli_tool.specs.Asked.{answer_in};
 
 use crate::answer::{Answer, Why};
@@ -34,17 +38,36 @@ pub fn checked<'a>(
 {
     match typed_unit_of(alloc, header_text, base(header), source_text) {
         Ok(_) => Ok(Answer::Outcome(true, Vec::new(alloc), fine(alloc)?)),
-        Err(CFault::Fault { kind, place }) => {
-            let report = c_refusal(alloc, kind, place)?;
-            let why = if place.header {
-                why_of(kind, place, header, header_text)
-            } else {
-                why_of(kind, place, source, source_text)
-            };
-            Ok(Answer::Refused(report, why))
-        }
+        Err(CFault::Fault { kind, place }) => refused(
+            alloc,
+            kind,
+            place,
+            (header, header_text),
+            (source, source_text),
+        ),
         Err(CFault::Memory) => Err(Memory),
     }
+}
+
+/// The refusal of the header or the source, each a file with its text, for a fault.
+pub fn refused<'a>(
+    alloc: Global,
+    kind: CKind,
+    place: Place,
+    header: (&'a [u8], &[u8]),
+    source: (&'a [u8], &[u8]),
+) -> Result<Answer<'a>, Memory>
+    requires header_fits { length header.1.now ≤ SOURCE_LIMIT }
+    requires source_fits { length source.1.now ≤ SOURCE_LIMIT }
+    ensures { IfOk result (λ a. answer_in a ≡ refusal (c_refusal_report (record { kind = kind; place = place }))) }
+{
+    let report = c_refusal(alloc, kind, place)?;
+    let why = if place.header {
+        why_of(kind, place, header.0, header.1)
+    } else {
+        why_of(kind, place, source.0, source.1)
+    };
+    Ok(Answer::Refused(report, why))
 }
 
 /// Why the text of this file is refused.
@@ -60,10 +83,17 @@ fn why_of<'a>(kind: CKind, place: Place, file: &'a [u8], text: &[u8]) -> Why<'a>
 }
 
 /// The unit that the texts are, without a fault of names and types under any data model.
-fn typed_unit_of(alloc: Global, header: &[u8], name: &[u8], source: &[u8]) -> Result<Unit, CFault>
+#[tactic(auto, using(crate::proofs::FaultlessUnits::no_faults))]
+pub fn typed_unit_of(
+    alloc: Global,
+    header: &[u8],
+    name: &[u8],
+    source: &[u8],
+) -> Result<Unit, CFault>
     requires header_fits { length header.now ≤ SOURCE_LIMIT }
     requires source_fits { length source.now ≤ SOURCE_LIMIT }
-    ensures { Gives (λ u. u) result (typed_texts header.now name.now source.now) }
+    ensures unit { Gives (λ u. u) result (typed_texts header.now name.now source.now) }
+    ensures faultless { IfOk result (λ u. faults_under models u ≡ []) }
 {
     let unit = unit_of(alloc, header, name, source)?;
     check(alloc, &unit)?;

@@ -1,16 +1,37 @@
 //! The commands: what each reads, and what the texts give.
 ghost use Rattle.std.specs.Prelude.{◌≡◌, ◌<◌, true, slice_get, length, IfOk};
+ghost use Rattle.cli_tool.specs.CheckTask as task;
 ghost use Rattle.cli_tool.specs.Task.{are_within};
 ghost use Rattle.cli_tool.specs.Asked.{task_by, answer_in};
 
 use crate::answer::Answer;
 use crate::checking::checked;
+use crate::executing::executed;
 use crate::generating::generated;
 use crate::reading::{FileText, Input};
+use crate::word::Word;
 use c_lexer::SOURCE_LIMIT;
 use can_model::TEXT_LIMIT;
 use cg_out::Memory;
 use std::alloc::Global;
+
+/// The data models by their names.
+#[derive(Clone, Copy)]
+pub enum DataModel {
+    Ilp32,
+    Lp64,
+}
+
+/// A call of a function of two C texts.
+#[derive(Clone, Copy)]
+pub struct Call<'a> {
+    pub header: &'a [u8],
+    pub source: &'a [u8],
+    pub model: DataModel,
+    pub function: &'a [u8],
+    /// The arguments, as they are spelled.
+    pub words: &'a [Word],
+}
 
 /// What the words ask for.
 #[derive(Clone, Copy)]
@@ -19,6 +40,8 @@ pub enum Command<'a> {
     GenerateCSource(&'a [u8]),
     /// Tell the first fault of this header and this source, if they have one.
     Check(&'a [u8], &'a [u8]),
+    /// Call a function, and tell what it gives.
+    Exec(Call<'a>),
 }
 
 impl<'a> Command<'a> {
@@ -31,14 +54,10 @@ impl<'a> Command<'a> {
                 file,
                 limit: TEXT_LIMIT,
             }),
-            (Command::Check(header, _), 0) => Some(Input {
-                file: header,
-                limit: SOURCE_LIMIT,
-            }),
-            (Command::Check(_, source), 1) => Some(Input {
-                file: source,
-                limit: SOURCE_LIMIT,
-            }),
+            (Command::Check(header, _), 0) => Some(c_input(header)),
+            (Command::Check(_, source), 1) => Some(c_input(source)),
+            (Command::Exec(call), 0) => Some(c_input(call.header)),
+            (Command::Exec(call), 1) => Some(c_input(call.source)),
             _ => None,
         }
     }
@@ -57,7 +76,20 @@ impl<'a> Command<'a> {
                 header_text.bytes(),
                 source_text.bytes(),
             ),
+            (Command::Exec(call), [header_text, source_text]) => {
+                executed(alloc, &call, header_text.bytes(), source_text.bytes())
+            }
             _ => Ok(Answer::WrongWords),
         }
+    }
+}
+
+/// A C text that is read.
+fn c_input(file: &[u8]) -> Input<'_>
+    ensures { result ≡ task.c_input file.now }
+{
+    Input {
+        file,
+        limit: SOURCE_LIMIT,
     }
 }

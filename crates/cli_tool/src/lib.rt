@@ -7,9 +7,11 @@
 #![tactic(auto)]
 
 mod answer;
+mod arguments;
 mod checking;
 mod column;
 mod command;
+mod executing;
 mod generating;
 mod naming;
 mod performing;

@@ -15,8 +15,10 @@ use std::alloc::Global;
 ///
 /// `generate_c_source FILE` reads a DBC text and writes the header `NAME.h` of its messages' frame
 /// constants, where NAME is the identifier of FILE's name without folders and ending.
-/// `check HEADER SOURCE` reads two C texts and tells their first fault, or `ok`. All other words,
-/// and words of which one is no UTF-8, are `Status::Usage`.
+/// `check HEADER SOURCE` reads two C texts and tells their first fault, or `ok`.
+/// `exec HEADER SOURCE MODEL FUNCTION ARG..` calls a function of them under `ilp32` or `lp64`, and
+/// tells its value and what its objects hold, or the undefined behaviour that it meets, which is
+/// `Status::Negative`. All other words, and words of which one is no UTF-8, are `Status::Usage`.
 pub fn run<F: Files, O: Sink>(alloc: Global, words: &[Word], files: &mut F, out: &mut O) -> Status
     // How a run may end; what must come where the texts are told; what the header is.
     ensures ends { Ends words.now (world (F.seen files.old) (O.seen out.old))

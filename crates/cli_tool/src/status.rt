@@ -6,9 +6,9 @@ ghost use Rattle.std.specs.Prelude.{◌≡◌};
 pub enum Status {
     /// The command was done, and its report was written.
     Done,
-    /// The command was done, and its answer is no. No command that is there so far ends so.
+    /// The command was done, and its answer is no: `exec` met undefined behaviour.
     Negative,
-    /// The words are no command.
+    /// The words are no command, or no function of the texts with its arguments.
     Usage,
     /// A text was refused, and the report says why.
     Refused,

@@ -6,6 +6,8 @@
 #[cfg(test)]
 mod checks;
 #[cfg(test)]
+mod executions;
+#[cfg(test)]
 mod explained;
 #[cfg(test)]
 mod reading;

@@ -5,6 +5,8 @@
 #[cfg(test)]
 mod databases;
 #[cfg(test)]
+mod execution;
+#[cfg(test)]
 mod expressions;
 #[cfg(test)]
 mod lexing;

@@ -1,6 +1,5 @@
-use Rattle.std.proofs.Common.{◌-◌, ◌+◌, length, ap, arith}
+use Rattle.std.proofs.Common.{arith}
 use Rattle.std.specs.Prelude.{not, ◌==◌}
-use Rattle.std.specs.List.{suffix_len}
 use Rattle.std.proofs.lemmas.List.Sums.{suffix_len-le-length}
 use Rattle.cli_tool.proofs.column.column_of.Goals as goal
 

@@ -1,8 +1,7 @@
 -- What was read and what it gives, through the lemma that joins the steps.
-use Rattle.std.proofs.Common.{◌≡◌, ◌<◌, ℕ, List, length, sym, ap, ◌∙◌, arith}
+use Rattle.std.proofs.Common.{sym, ap, ◌∙◌}
 use Rattle.cg_out.specs.Outside.{FilesSeen}
 use Rattle.cli_tool.specs.World.{World, world}
-use Rattle.cli_tool.specs.Command.{Command, generate_c_source, check}
 use Rattle.cli_tool.specs.Task.{answer_of}
 use Rattle.cli_tool.specs.Ends.{task_of}
 use Rattle.cli_tool.specs.Asked.{asked_by, answer_in}

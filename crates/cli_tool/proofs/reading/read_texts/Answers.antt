@@ -1,8 +1,7 @@
 -- Why the texts are not all there, behind those that were read.
-use Rattle.std.proofs.Common.{◌≡◌, ℕ, List, Result, Ok, Err, length, slice_get, Some, sym, ap, subst, ◌∙◌, rules}
+use Rattle.std.proofs.Common.{◌≡◌, Result, Ok, Err, length, slice_get, Some, sym, ap, subst, ◌∙◌, rules}
 use Rattle.std.specs.Prelude.{IfErr}
 use Rattle.std.specs.Result.{IsErrAnd}
-use Rattle.cg_out.specs.Outside.{FilesSeen}
 use Rattle.cli_tool.specs.Asked.{task_by}
 use Rattle.cli_tool.proofs.TextsRead.{no_room, not_all}
 use Rattle.cli_tool.proofs.reading.read_texts.Goals as goal

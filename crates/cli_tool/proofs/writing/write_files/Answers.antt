@@ -1,5 +1,5 @@
 -- One file more is written, or torn.
-use Rattle.std.proofs.Common.{◌≡◌, ◌<◌, Result, Ok, Err, length, slice_get, Some, refl, ap, ◌∙◌, arith}
+use Rattle.std.proofs.Common.{◌≡◌, Result, Ok, Err, length, slice_get, Some, refl, ap, ◌∙◌, arith}
 use Rattle.std.proofs.lemmas.Bool.Decides.{nat_tests}
 use Rattle.std.proofs.lemmas.Option.{slice_get_read}
 use Rattle.std.specs.Prelude.{OnErr}

@@ -1,0 +1,7 @@
+-- What the promises rest on.
+pub mod CutWord
+pub mod NumberWord
+pub mod StructWord
+pub mod ObjectWord
+pub mod ArgumentWord
+pub mod CallReport
