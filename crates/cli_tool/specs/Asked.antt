@@ -24,6 +24,6 @@ abbrev pub task_by : Found → Task
 task_by command = task_of (asked_by command)
 
 abbrev pub answer_in : Given → Answer
-answer_in given.WrongWords = wrong_words
+answer_in (given.WrongWords why) = wrong_words
 answer_in (given.Refused report why) = refused report.items
 answer_in (given.Outcome positive outputs report) = outcome positive outputs.items report.items

@@ -22,7 +22,7 @@ impl Model for Output {
     ghost view = { λ o. record { file = o.file.items; bytes = o.bytes.items } };
 }
 
-/// Why a text is refused, for a person.
+/// Why a text is refused, or words are wrong, for a person.
 #[derive(Clone, Copy)]
 pub struct Why<'a> {
     /// The file, as the words name it.
@@ -37,8 +37,8 @@ pub struct Why<'a> {
 /// What the texts of a command give, with all that is to be written.
 #[derive(Drop)]
 pub enum Answer<'a> {
-    /// The words are wrong after all.
-    WrongWords,
+    /// The words are wrong after all, and why, where more can be told of it.
+    WrongWords(Option<Why<'a>>),
     /// A text is refused, by this report.
     Refused(Vec<u8>, Why<'a>),
     /// The command is done: whether its answer is yes, the files to write in order, the report.
@@ -51,7 +51,7 @@ impl<'a> Answer<'a> {
         ensures { result ≡ status_of (answer_in self.now) }
     {
         match self {
-            Answer::WrongWords => Status::Usage,
+            Answer::WrongWords(_) => Status::Usage,
             Answer::Refused(_, _) => Status::Refused,
             Answer::Outcome(true, _, _) => Status::Done,
             Answer::Outcome(false, _, _) => Status::Negative,
@@ -63,7 +63,7 @@ impl<'a> Answer<'a> {
         ensures { result.now ≡ outputs_of (answer_in self.now) }
     {
         match self {
-            Answer::WrongWords | Answer::Refused(_, _) => &[],
+            Answer::WrongWords(_) | Answer::Refused(_, _) => &[],
             Answer::Outcome(_, outputs, _) => outputs.as_slice(),
         }
     }
@@ -72,17 +72,18 @@ impl<'a> Answer<'a> {
         ensures { result.now ≡ report_of (answer_in self.now) }
     {
         match self {
-            Answer::WrongWords => usage(),
+            Answer::WrongWords(_) => usage(),
             Answer::Refused(report, _) => report.as_slice(),
             Answer::Outcome(_, _, report) => report.as_slice(),
         }
     }
 
-    /// Why a text is refused, where one is.
+    /// Why a text is refused, or the words are wrong after all.
     pub fn why(&self) -> Option<Why<'a>> {
         match self {
             Answer::Refused(_, why) => Some(*why),
-            Answer::WrongWords | Answer::Outcome(_, _, _) => None,
+            Answer::WrongWords(why) => *why,
+            Answer::Outcome(_, _, _) => None,
         }
     }
 }

@@ -79,7 +79,7 @@ impl<'a> Command<'a> {
             (Command::Exec(call), [header_text, source_text]) => {
                 executed(alloc, &call, header_text.bytes(), source_text.bytes())
             }
-            _ => Ok(Answer::WrongWords),
+            _ => Ok(Answer::WrongWords(None)),
         }
     }
 }

@@ -46,6 +46,18 @@ const NOTES: &[(&str, &[u8], &[u8], &str)] = &[
         b"CM_ \"a\";",
         "t.c:0:0: this form is not read yet",
     ),
+    (
+        "exec in/h.h t.c lp64 g",
+        b"",
+        b"int f(void) { return 1; }",
+        "t.c:0:0: no function of this name is defined",
+    ),
+    (
+        "exec in/h.h t.c lp64 f bytes:00",
+        b"",
+        b"int\nf(int a) { return a; }",
+        "t.c:2:0: this function does not take these arguments",
+    ),
     ("check in/h.h t.c", b"", b"", ""),
     ("decode t.c 497 00", b"", b"", ""),
 ];
