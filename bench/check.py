@@ -14,8 +14,8 @@ import shutil
 import sys
 import tempfile
 
-from generated import pack, signals
-from measuring import exponent, measure
+from generated import pack, signals, write_source
+from measuring import measure, print_exponent
 
 TOP = os.path.dirname(os.path.dirname(os.path.abspath(__file__)))
 PROGRAM = os.path.join(TOP, "crates", "cantoolc", "out", "cantoolc")
@@ -72,12 +72,7 @@ def write_pair(folder, limit):
 
 def write_damaged(folder, arguments):
     """A source that is one call with so many arguments, of which the last is two names."""
-    with open(os.path.join(folder, "bench.h"), "w", encoding="ascii"):
-        pass
-    path = os.path.join(folder, "bench.c")
-    with open(path, "w", encoding="ascii") as f:
-        f.write("int f(void) { return f(" + "a - b, " * arguments + "a b); }\n")
-    return os.path.getsize(path)
+    return write_source(folder, "int f(void) { return f(" + "a - b, " * arguments + "a b); }\n")
 
 
 def whole_pairs(larger):
@@ -119,10 +114,7 @@ def shape(name):
     whole, text = SHAPES[name]
     for count in (whole // 8, whole):
         with tempfile.TemporaryDirectory() as folder:
-            for file, content in (("bench.h", ""), ("bench.c", text(count))):
-                with open(os.path.join(folder, file), "w", encoding="ascii") as f:
-                    f.write(content)
-            size = os.path.getsize(os.path.join(folder, "bench.c"))
+            size = write_source(folder, text(count))
             ours = measure([PROGRAM, "check", "bench.h", "bench.c"], folder, RUNS)
         print(f"{size:>10} {ours.used:>10.3f} {ours.peak / 1e6:>10.1f}   {count} {name}")
         yield size, ours.used
@@ -134,8 +126,7 @@ def main():
     print(f"{'bytes':>10} {'check s':>10} {'check MB':>10} {'gcc s':>10} {'gcc MB':>10}")
     larger = int(sys.argv[1]) if len(sys.argv) > 1 else 8_000_000
     for pairs in (whole_pairs(larger), damaged_pairs(), *map(shape, SHAPES)):
-        (small, quick), (large, slow) = pairs
-        print(f"exponent of time: {exponent(small, quick, large, slow):.2f}")
+        print_exponent(pairs)
 
 
 if __name__ == "__main__":

@@ -12,7 +12,8 @@ import sys
 import tempfile
 
 from check import PROGRAM, RUNS, write_pair
-from measuring import exponent, measure
+from generated import write_source
+from measuring import measure, print_exponent
 
 CALL = ["lp64", "vehicle_message_0_pack", "raw:16", "struct:engine_speed=258,oil_temperature=3", "int:16"]
 SHAPES = {
@@ -48,9 +49,7 @@ def shape(name):
     whole, text = SHAPES[name]
     for count in (whole // 8, whole):
         with tempfile.TemporaryDirectory() as folder:
-            for file, content in (("bench.h", ""), ("bench.c", text(count))):
-                with open(os.path.join(folder, file), "w", encoding="ascii") as f:
-                    f.write(content)
+            write_source(folder, text(count))
             size, ours, beside = timed(folder, ["lp64", "f", "int:0"])
         row(size, ours, beside, f"{count} {name}")
         yield size, ours.used
@@ -62,8 +61,7 @@ def main():
     print(f"{'bytes':>10} {'exec s':>10} {'exec MB':>10} {'check s':>10} {'check MB':>10} {'ratio':>8}")
     larger = int(sys.argv[1]) if len(sys.argv) > 1 else 8_000_000
     for timings in (pairs(larger), *map(shape, SHAPES)):
-        (small, quick), (large, slow) = timings
-        print(f"exponent of time: {exponent(small, quick, large, slow):.2f}")
+        print_exponent(timings)
 
 
 if __name__ == "__main__":

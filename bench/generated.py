@@ -1,4 +1,5 @@
-"""C of the kind that is generated from a CAN database."""
+"""C of the kind that is generated from a CAN database, and pairs of texts in a folder."""
+import os
 
 SIGNALS = ["engine_speed", "oil_temperature", "wheel_speed_front_left", "mode", "yaw_rate", "checksum"]
 
@@ -21,3 +22,11 @@ def pack(name, signals):
             f"    dst_p[{2 * i + 1}] |= pack_right_shift_u16({signal}, 8u, 0xffu);",
         ]
     return lines + ["", f"    return ({2 * len(signals)});", "}", ""]
+
+
+def write_source(folder, text):
+    """An empty header bench.h and this source bench.c; gives the bytes of the source."""
+    for name, content in (("bench.h", ""), ("bench.c", text)):
+        with open(os.path.join(folder, name), "w", encoding="ascii") as f:
+            f.write(content)
+    return os.path.getsize(os.path.join(folder, "bench.c"))

@@ -38,3 +38,9 @@ def measure(words, folder, runs, status=0):
 def exponent(small, quick, large, slow):
     """How fast the time grows from a small text to a large one: 1 is linear."""
     return math.log(slow / quick) / math.log(large / small)
+
+
+def print_exponent(timings):
+    """Prints how fast the time grows, of the sizes and seconds of a small and a large text."""
+    (small, quick), (large, slow) = timings
+    print(f"exponent of time: {exponent(small, quick, large, slow):.2f}")
