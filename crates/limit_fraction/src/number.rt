@@ -28,6 +28,7 @@ impl Decimal {
     ghost use Rattle.std.specs.Prelude.{◌≡◌, ◌^◌, ◌≤◌, ℤ, pos, neg_ℤ, unsigned_abs, IfOk, OnErr, IfSome, Some, None};
     ghost use Rattle.limit_fraction.specs.Number.{units, IsSame};
     ghost use Rattle.limit_fraction.specs.Decimal.{number_of, whole_of};
+    ghost use Rattle.limit_fraction.specs.Negated.{negated};
     ghost use Rattle.limit_fraction.specs.Reading.{decimal_of, IsSpelled};
     ghost use Rattle.limit_fraction.specs.declared.number.Decimal.{Decimal};
 
@@ -51,6 +52,7 @@ impl Decimal {
 
     /// The number with its sign turned.
     pub fn negated(&self) -> Decimal
+        ensures value { result ≡ negated self.now }
         ensures mantissa { result.mantissa ≡ neg_ℤ self.now.mantissa }
         ensures exponent { result.exponent ≡ self.now.exponent }
     {
