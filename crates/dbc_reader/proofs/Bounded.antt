@@ -1,83 +1,96 @@
 -- A number that is kept is at most the limit of its place in the template.
-use Rattle.std.proofs.Common.{◌≡◌, ℕ, ◌≤◌, Bool, true, false, cond, List, [], ◌∷◌, length, Result, Ok, Err, refl, sym, ap, subst, ◌∙◌, arith}
-use Rattle.std.specs.Prelude.{codes, IfOk}
+use Rattle.std.proofs.Common.{◌≡◌, inl, inr, ℕ, ◌≤◌, List, [], ◌∷◌, map, Result, Ok, Err, refl, sym, subst}
+use Rattle.std.specs.Prelude.{IfOk}
+use Rattle.std.specs.List.{AllByRecursion}
+use Rattle.std.specs.Global.{Vec}
 use Rattle.std.specs.declared.option.Option.{Option}
 use Rattle.std.specs.declared.option.Option.TheVariants.{None, Some}
-use Rattle.std.specs.Str.{bytes_eq}
-use Rattle.can_model.specs.Refusal.{Refusal, Gives}
+use Rattle.can_model.specs.Refusal.{Gives}
 use Rattle.can_model.specs.declared.refusal.TextFault.{TextFault}
-use Rattle.std.specs.Global.{Vec}
-use Rattle.can_model.specs.declared.refusal.TextKind.TheVariants.{TooLarge}
 use Rattle.dbc_reader.specs.declared.token.Token.{Token}
 use Rattle.dbc_reader.specs.declared.token.Token.TheVariants.{Word, Number, String, Mark, Bad}
 use Rattle.dbc_reader.specs.declared.token.Lexed.{Lexed}
 use Rattle.dbc_reader.specs.declared.statement.Statement.{Statement}
 use Rattle.dbc_reader.specs.Number.{whole_in}
-use Rattle.dbc_reader.specs.Template.{whole_number, Field, number_field, text_field, no_field, number_or_fault, given}
-use Rattle.dbc_reader.specs.Rows.{Row, version, nodes, message, message_body, row_of}
+use Rattle.dbc_reader.specs.Template.{Want, first_word, first_mark, word, string, mark, sign, whole_number, decimal, Test, Template, done, take, both, choose, repeat, skip, stop, Given, Kept, value_or_fault, given_of}
+use Rattle.dbc_reader.specs.Rows.{message, message_body, signal, signal_body, Row, rows}
+use Rattle.dbc_reader.specs.Document.{table, made, statement, statement_of}
 use Rattle.dbc_reader.specs.Tokens.{tokens, end_line}
-use Rattle.dbc_reader.specs.Reading.{all_of, too_large, statements_of, fault_at}
-use Rattle.dbc_reader.specs.Statements.{Fits, BeginsWith, AreStatements}
+use Rattle.dbc_reader.specs.Reading.{all_of}
+use Rattle.dbc_reader.specs.Statements.{Rounds, Fits, AreStatements}
 use Rattle.dbc_reader.specs.Bounds.{IsBoundedBody, AreBounded}
-use Rattle.dbc_reader.proofs.Exact.{all_sound}
 use Rattle.dbc_reader.proofs.WholeNumbers.{whole_in-found}
+use Rattle.dbc_reader.proofs.Documents.{all_sound}
 
--- ---- fields
+abbrev IsUpTo : (w : Want) → Given w → Type 0
+IsUpTo (whole_number limit) n = n ≤ limit
+IsUpTo w x = Unit {0}
 
-abbrev IsUpTo : ℕ → Field → Type 0
-IsUpTo limit (number_field n) = n ≤ limit
-IsUpTo limit field = Unit {0}
+abbrev IsBounded : (t : Template) → Kept t → Type 0
+IsBounded (take w) x = IsUpTo w x
+IsBounded (both t u) x = IsBounded t x.0 × IsBounded u x.1
+IsBounded (choose p t u) (inl x) = IsBounded t x
+IsBounded (choose p t u) (inr x) = IsBounded u x
+IsBounded t x = Unit {0}
 
-number-up_to : (limit : ℕ) (o : Option ℕ) (f : Field) → ((n : ℕ) → o ≡ Some n → n ≤ limit) → number_or_fault o ≡ Ok f → IsUpTo limit f
-number-up_to limit None f h e = absurd cc
-number-up_to limit (Some n) f h e = let same : number_field n ≡ f = cc in subst (IsUpTo limit) same (h n refl)
+number_up_to : (limit : ℕ) (o : Option ℕ) (n : ℕ) → ((k : ℕ) → o ≡ Some k → k ≤ limit) → value_or_fault o ≡ Ok n → n ≤ limit
+number_up_to limit None n h e = absurd cc
+number_up_to limit (Some k) n h e = let same : k ≡ n = cc in subst (λ z. z ≤ limit) same (h k refl)
 
-given-up_to : (limit : ℕ) (t : Token) (f : Field) → given (whole_number limit) t ≡ Ok f → IsUpTo limit f
-given-up_to limit (Number digits) f e = number-up_to limit (whole_in limit digits) f (λ n h. (whole_in-found limit digits n h).1) e
-given-up_to limit (Word w) f e = absurd cc
-given-up_to limit (String w) f e = absurd cc
-given-up_to limit (Mark b) f e = absurd cc
-given-up_to limit (Bad k) f e = absurd cc
+whole_up_to : (limit : ℕ) (t : Token) (line n : ℕ) → given_of (whole_number limit) t line ≡ Ok n → n ≤ limit
+whole_up_to limit (Number digits) line n e = number_up_to limit (whole_in limit digits) n (λ k h. (whole_in-found limit digits k h).1) e
+whole_up_to limit (Word w) line n e = absurd cc
+whole_up_to limit (String w) line n e = absurd cc
+whole_up_to limit (Mark b) line n e = absurd cc
+whole_up_to limit (Bad k) line n e = absurd cc
 
--- ---- bodies
+given_up_to : (w : Want) (t : Token) (line : ℕ) (x : Given w) → given_of w t line ≡ Ok x → IsUpTo w x
+given_up_to (whole_number limit) t line x e = whole_up_to limit t line x e
+given_up_to first_word t line x e = tt
+given_up_to (first_mark b) t line x e = tt
+given_up_to word t line x e = tt
+given_up_to string t line x e = tt
+given_up_to (mark b) t line x e = tt
+given_up_to sign t line x e = tt
+given_up_to decimal t line x e = tt
 
-body-bounded : (a b c d e : Field) → IsUpTo 4294967295 a → IsUpTo 65535 d → IsBoundedBody (message_body (a ∷ b ∷ c ∷ d ∷ e ∷ []))
-body-bounded (number_field id) (text_field name) no_field (number_field len) (text_field sender) h k = (h, k)
-body-bounded a b c d e h k = tt
+fits_bounded : (t : Template) (x : Kept t) (ts rest : List Lexed) → Fits t x ts rest → IsBounded t x
+fits_bounded done x ts rest h = tt
+fits_bounded (take w) x ts rest h = given_up_to w h.0.token h.0.line x h.2
+fits_bounded (both t u) x ts rest h = (fits_bounded t x.0 ts h.0 h.1, fits_bounded u x.1 h.0 rest h.2)
+fits_bounded (choose p t u) (inl x) ts rest h = fits_bounded t x ts rest h.1
+fits_bounded (choose p t u) (inr x) ts rest h = fits_bounded u x ts rest h.1
+fits_bounded (repeat p t) x ts rest h = tt
+fits_bounded (skip p) x ts rest h = tt
+fits_bounded (stop p kind) x ts rest h = tt
 
-message-bounded : (fs : List Field) (ts rest : List Lexed) → Fits message.template fs ts rest → IsBoundedBody (message_body fs)
-message-bounded fs ts rest (x0, xs0, f0, g0, t0, e0, h0, (x1, xs1, f1, g1, t1, e1, h1, (x2, xs2, f2, g2, t2, e2, h2, (x3, xs3, f3, g3, t3, e3, h3, (x4, xs4, f4, g4, t4, e4, h4, (e5, r)))))) =
-    let whole : fs ≡ f0 ∷ f1 ∷ f2 ∷ f3 ∷ f4 ∷ [] =
-    e0 ∙ ap (λ (gs : List Field). f0 ∷ gs) (e1 ∙ ap (λ (gs : List Field). f1 ∷ gs) (e2 ∙ ap (λ (gs : List Field). f2 ∷ gs) (e3 ∙ ap (λ (gs : List Field). f3 ∷ gs) (e4 ∙ ap (λ (gs : List Field). f4 ∷ gs) e5)))) in
-    subst (λ (gs : List Field). IsBoundedBody (message_body gs)) (sym whole) (body-bounded f0 f1 f2 f3 f4 (given-up_to 4294967295 x0.token f0 h0) (given-up_to 65535 x3.token f3 h3))
+-- ---- rows
 
-row-is : (r s : Row) → ◌≡◌ {A = Option Row} (Some r) (Some s) → r ≡ s
-row-is r s e = cc
+abbrev RowBounds : Row → Type 0
+RowBounds r = (x : Kept r.template) → IsBounded r.template x → IsBoundedBody (r.body x)
 
-abbrev Bounds : Row → Type 0
-Bounds row = (fs : List Field) (ts rest : List Lexed) → Fits row.template fs ts rest → IsBoundedBody (row.body fs)
+rows_bounded : AllByRecursion RowBounds rows
+rows_bounded = (λ x h. tt, (λ x h. tt, (λ x h. tt, (λ x h. tt, (of_message, (of_signal, (λ x h. tt, (λ x h. tt, (λ x h. tt, (λ x h. tt, (λ x h. tt, (λ x h. tt, tt))))))))))))
+  where
+    of_message : (x : Kept message) → IsBounded message x → IsBoundedBody (message_body x)
+    of_message x h = (h.0, h.1.1.1.0)
 
-row-bounded : (w : List ℕ) (row : Row) → row_of w ≡ Some row → Bounds row
-row-bounded w row e = chosen (bytes_eq w (codes "VERSION")) (bytes_eq w (codes "BU_")) (bytes_eq w (codes "BO_")) e where
-  chosen : (a b c : Bool) → ◌≡◌ {A = Option Row} (cond a (Some version) (cond b (Some nodes) (cond c (Some message) None))) (Some row) → Bounds row
-  chosen true b c d = subst Bounds (row-is version row d) (λ fs ts rest h. tt)
-  chosen false true c d = subst Bounds (row-is nodes row d) (λ fs ts rest h. tt)
-  chosen false false true d = subst Bounds (row-is message row d) message-bounded
-  chosen false false false d = absurd cc
+    of_signal : (x : Kept signal) → IsBounded signal x → IsBoundedBody (signal_body x)
+    of_signal x h = (h.1.1.1.0.0, h.1.1.1.0.1.1.0)
 
-statement-bounded : (s : Statement) (ts rest : List Lexed) → BeginsWith s ts rest → IsBoundedBody s.body
-statement-bounded s ts rest b = subst (λ (z : Statement). IsBoundedBody z.body) (sym b.made) (row-bounded b.name b.row b.row_is b.fields b.others rest b.fits)
+made_bounded : (rs : List Row) → AllByRecursion RowBounds rs → (x : Kept (table rs)) → IsBounded (table rs) x → IsBoundedBody (made rs x).body
+made_bounded [] a (inl x) h = tt
+made_bounded [] a (inr x) h = tt
+made_bounded (r ∷ rs) a (inl x) h = a.0 x.1 h.1
+made_bounded (r ∷ rs) a (inr x) h = made_bounded rs a.1 x h
 
-list-bounded : (ss : List Statement) (ts : List Lexed) → AreStatements ss ts → AreBounded ss
-list-bounded [] ts h = tt
-list-bounded (s ∷ ss) ts h = (statement-bounded s ts h.0 h.1, list-bounded ss h.0 h.2)
+rounds_bounded : (p : Test) (xs : List (Kept statement)) (ts rest : List Lexed) → Rounds (Fits statement) p xs ts rest → AreBounded (map statement_of xs)
+rounds_bounded p [] ts rest h = tt
+rounds_bounded p (x ∷ xs) ts rest h = (made_bounded rows rows_bounded x (fits_bounded statement x ts h.1.0 h.1.1), rounds_bounded p xs h.1.0 rest h.1.2)
 
-pub statements-bounded : (text : List ℕ) (ss : List Statement) → statements_of text ≡ Ok ss → AreBounded ss
-statements-bounded text ss e = by_length (too_large text) e where
-  by_length : (r : Bool) → ◌≡◌ {A = Result (List Statement) Refusal} (cond r (Err (fault_at TooLarge 0)) (all_of (end_line text) (tokens text))) (Ok ss) → AreBounded ss
-  by_length true f = absurd cc
-  by_length false f = list-bounded ss (tokens text) (all_sound (end_line text) (length (tokens text)) (tokens text) ss (omega arith) f)
+list_bounded : (ss : List Statement) (ts : List Lexed) → AreStatements ss ts → AreBounded ss
+list_bounded ss ts (xs, f, e) = subst AreBounded (sym e) (rounds_bounded Test.anything xs ts [] f.0)
 
-pub answer-bounded : (text : List ℕ) (r : Result (Vec Statement) TextFault) → Gives (λ v. v.items) r (all_of (end_line text) (tokens text)) → IfOk r (λ v. AreBounded v.items)
-answer-bounded text (Ok v) g = list-bounded v.items (tokens text) (all_sound (end_line text) (length (tokens text)) (tokens text) v.items (omega arith) g)
-answer-bounded text (Err e) g = tt
+pub answer_bounded : (text : List ℕ) (r : Result (Vec Statement) TextFault) → Gives (λ v. v.items) r (all_of (end_line text) (tokens text)) → IfOk r (λ v. AreBounded v.items)
+answer_bounded text (Ok v) g = list_bounded v.items (tokens text) (all_sound (end_line text) (tokens text) v.items g)
+answer_bounded text (Err e) g = tt

@@ -1,8 +1,6 @@
 -- Reading halts at the first fault: with the token there no list of statements begins, since reading halts whatever stands behind;
 -- and there is one such place, since of two fronts of the tokens one is a front of the other.
-use Rattle.std.proofs.Common.{◌≡◌, ◌⊎◌, inl, inr, ℕ, zero, suc, ◌≤◌, List, [], ◌∷◌, ◌++◌, length, Result, Ok, Err, refl, sym, ap, subst, ◌∙◌, append_assoc, arith}
-use Rattle.std.specs.declared.option.Option.{Option}
-use Rattle.std.specs.declared.option.Option.TheVariants.{None, Some}
+use Rattle.std.proofs.Common.{◌≡◌, ◌⊎◌, inl, inr, ℕ, List, [], ◌∷◌, ◌++◌, map, Result, Ok, Err, refl, sym, ap, subst, ◌∙◌, append_assoc}
 use Rattle.std.proofs.lemmas.List.{append-nil}
 use Rattle.can_model.specs.Refusal.{Refusal}
 use Rattle.can_model.specs.declared.refusal.TextKind.{TextKind}
@@ -10,160 +8,146 @@ use Rattle.can_model.specs.declared.refusal.TextKind.TheVariants.{Unexpected}
 use Rattle.dbc_reader.specs.declared.token.Token.{Token}
 use Rattle.dbc_reader.specs.declared.token.Token.TheVariants.{Word, Number, String, Mark, Bad}
 use Rattle.dbc_reader.specs.declared.token.Lexed.{Lexed}
-use Rattle.dbc_reader.specs.declared.statement.Statement.{Statement}
-use Rattle.dbc_reader.specs.declared.statement.Body.{Body}
-use Rattle.dbc_reader.specs.Template.{Field}
-use Rattle.dbc_reader.specs.Rows.{Row, row_of}
-use Rattle.dbc_reader.specs.Reading.{fault_at, template_at, made_at, row_at, begun_at, statement_at, all_of}
-use Rattle.cg_out.specs.Words.{◌>>=◌}
-use Rattle.dbc_reader.specs.Statements.{Fits, AreStatements}
-use Rattle.dbc_reader.specs.FirstFault.{AreWhole, AreBegun, WantsNumber, HasKind, StopsAt, IsFirstTokenFault}
-use Rattle.dbc_reader.proofs.Steps.{statement_ok, statement_shorter, all_of-step, all_of-stop, all_of-nil}
-use Rattle.dbc_reader.proofs.Exact.{template_fits, fits_template, statement_read, all_sound, all_complete}
-use Rattle.dbc_reader.proofs.Lively.{MayFollow, fits_local, numbered, Accepts, live, row_live}
-use Rattle.dbc_reader.proofs.Halting.{Kinds, AtBack, Halts, may, lift, err_is, bind_err, halts_here, template_halts}
+use Rattle.dbc_reader.specs.Template.{Kept}
+use Rattle.dbc_reader.specs.Document.{statement, statement_of, document}
+use Rattle.dbc_reader.specs.Reading.{fault_at, template_at, all_of}
+use Rattle.dbc_reader.specs.Statements.{Fits}
+use Rattle.dbc_reader.specs.FirstFault.{AreWhole, AreBegun, WantsNumber, Stops, HasOwnKind, HasKind, StopsAt, IsFirstTokenFault}
+use Rattle.dbc_reader.proofs.Steps.{err_is, bind_err, never_both}
+use Rattle.dbc_reader.proofs.Exact.{fits_template}
+use Rattle.dbc_reader.proofs.Lively.{numbered, Accepts}
+use Rattle.dbc_reader.proofs.Halting.{Own, Kinds, AtBack, Halts, Begun, template_halts, stops_read}
+use Rattle.dbc_reader.proofs.Documents.{document_regular, document_live, all_sound}
 
--- ---- where reading all statements halts
+module _ (end : ℕ) where
+  abbrev read : List Lexed → Result (List (Kept statement) × List Lexed) Refusal
+  read ts = template_at end document ts
 
-nothing_yet : (more : List Lexed) × AreWhole more
-nothing_yet = ([], ([], refl))
+  abbrev accepts : List Lexed → Type 0
+  accepts ts = Accepts document [] ts
 
--- a statement and a list behind it
-with_statement : (x : Lexed) (w : List ℕ) (row : Row) (fs : List Field) (xs rest : List Lexed) → x.token ≡ Word w → row_of w ≡ Some row → Fits row.template fs xs rest → AreWhole rest → AreWhole (x ∷ xs)
-with_statement x w row fs xs rest e1 e2 fits a =
-    let made : Statement = record { line = x.line; body = row.body fs } in
-    (made ∷ a.0, (rest, record { first = x; others = xs; name = w; row = row; fields = fs; tokens_are = refl; word_is = e1; row_is = e2; fits = fits; made = refl }, a.1))
+  abbrev stops : List Lexed → Lexed → TextKind → Type 0
+  stops front x k = Stops document front x k
 
-at_word : (end : ℕ) (x : Lexed) (xs : List Lexed) (s : Refusal) (w : List ℕ) → x.token ≡ Word w → (o : Option Row) → row_of w ≡ o → row_at end o x xs ≡ Err s → Halts (all_of end) AreWhole end (x ∷ xs) s
-at_word end x xs s w e1 None e2 e =
-    halts_here (all_of end) AreWhole end x xs Unexpected s (err_is (fault_at Unexpected x.line) s e) nothing_yet
-    (λ ys. all_of-stop end x ys _ (ap (λ (k : Token). begun_at end k x ys) e1 ∙ ap (λ (o : Option Row). row_at end o x ys) e2))
-    (subst (λ (k : Token). Kinds (all_of end) AreWhole [] Unexpected k) (sym e1) refl)
-at_word end x xs s w e1 (Some row) e2 e =
-    let t = row.template in
-    let h : template_at end t xs ≡ Err s = bind_err (template_at end t xs) (λ (fs : List Field × List Lexed). (row.body fs.0, fs.1)) s (bind_err (made_at end row xs) (λ (b : Body × List Lexed). (record { line = x.line; body = b.0 }, b.1)) s e) in
-    let acc : (us : List Lexed) → Accepts t us → AreWhole (x ∷ us) = λ us a. with_statement x w row a.0 us [] e1 e2 a.1 ([], refl) in
-    lift (template_at end t) (Accepts t) (all_of end) AreWhole (x ∷ []) end xs s
-    (λ us m d k. all_of-stop end x us d (ap (λ (j : Token). begun_at end j x us) e1 ∙ ap (λ (o : Option Row). row_at end o x us) e2 ∙ rw k refl))
-    (λ us m a. acc us a)
-    (let z = live t (row_live w row e2) in (z.0, acc z.0 z.1))
-    (template_halts end t xs s (row_live w row e2) h)
+  abbrev Read : List Lexed → Refusal → Type 0
+  Read ts s = read ts ≡ Err s
 
-at_start : (end : ℕ) (k : Token) (x : Lexed) (xs : List Lexed) (s : Refusal) → x.token ≡ k → begun_at end k x xs ≡ Err s → Halts (all_of end) AreWhole end (x ∷ xs) s
-at_start end (Word w) x xs s e1 e = at_word end x xs s w e1 (row_of w) refl e
-at_start end (Number d) x xs s e1 e = halts_here (all_of end) AreWhole end x xs Unexpected s (err_is (fault_at Unexpected x.line) s e) nothing_yet (λ ys. all_of-stop end x ys _ (ap (λ (k : Token). begun_at end k x ys) e1)) (subst (λ (k : Token). Kinds (all_of end) AreWhole [] Unexpected k) (sym e1) (inr (refl, λ d' n ys. all_of-stop end (numbered d' n) ys _ refl)))
-at_start end (String d) x xs s e1 e = halts_here (all_of end) AreWhole end x xs Unexpected s (err_is (fault_at Unexpected x.line) s e) nothing_yet (λ ys. all_of-stop end x ys _ (ap (λ (k : Token). begun_at end k x ys) e1)) (subst (λ (k : Token). Kinds (all_of end) AreWhole [] Unexpected k) (sym e1) refl)
-at_start end (Mark d) x xs s e1 e = halts_here (all_of end) AreWhole end x xs Unexpected s (err_is (fault_at Unexpected x.line) s e) nothing_yet (λ ys. all_of-stop end x ys _ (ap (λ (k : Token). begun_at end k x ys) e1)) (subst (λ (k : Token). Kinds (all_of end) AreWhole [] Unexpected k) (sym e1) refl)
-at_start end (Bad j) x xs s e1 e = halts_here (all_of end) AreWhole end x xs j s (err_is (fault_at j x.line) s e) nothing_yet (λ ys. all_of-stop end x ys _ (ap (λ (k : Token). begun_at end k x ys) e1)) (subst (λ (k : Token). Kinds (all_of end) AreWhole [] j k) (sym e1) refl)
+  whole_of : (ts : List Lexed) → accepts ts → AreWhole ts
+  whole_of ts (fs, f) = (map statement_of fs, (fs, subst (λ (us : List Lexed). Fits document fs us []) (append-nil ts) f, refl))
 
-all_halts : (end n : ℕ) (ts : List Lexed) (s : Refusal) → length ts ≤ n → all_of end ts ≡ Err s → Halts (all_of end) AreWhole end ts s
-all_halts end n [] s le e = absurd (let h : ◌≡◌ {A = Result (List Statement) Refusal} (Ok []) (Err s) = sym (all_of-nil end) ∙ e in cc)
-all_halts end zero (x ∷ xs) s le e = absurd (omega arith)
-all_halts end (suc n) (x ∷ xs) s le e =
-    elim (statement_at end x xs) as (λ r. statement_at end x xs ≡ r → Halts (all_of end) AreWhole end (x ∷ xs) s) [
-      | Ok y ↦ λ d.
-          let r = statement_ok end x xs y d in
-          let after = fits_local r.row.template r.fields xs y.1 (template_fits end r.row.template xs (r.fields, y.1) r.read) in
-          let made : Statement = record { line = x.line; body = r.row.body r.fields } in
-          let inner = all_halts end n y.1 s (omega (arith, statement_shorter end x xs y d)) (bind_err (all_of end y.1) (λ (us : List Statement). y.0 ∷ us) s (sym (all_of-step end x xs y d) ∙ e)) in
-          let again : (us : List Lexed) → MayFollow y.1 us → statement_at end x (after.0 ++ us) ≡ Ok (made, us) = λ us m. statement_read end x (after.0 ++ us) r.name r.row r.fields us r.word_is r.row_is (fits_template end r.row.template r.fields (after.0 ++ us) us (after.2 us m)) in
-          let acc : (us : List Lexed) → MayFollow y.1 us → AreWhole us → AreWhole ((x ∷ after.0) ++ us) = λ us m a. with_statement x r.name r.row r.fields (after.0 ++ us) us r.word_is r.row_is (after.2 us m) a in
-          subst (λ (us : List Lexed). Halts (all_of end) AreWhole end us s) (ap (λ (us : List Lexed). x ∷ us) (sym after.1))
-          (lift (all_of end) AreWhole (all_of end) AreWhole (x ∷ after.0) end y.1 s
-          (λ us m f k. all_of-step end x (after.0 ++ us) (made, us) (again us (may y.1 us m)) ∙ ap (λ (z : Result (List Statement) Refusal). z >>= λ ss. Ok (made ∷ ss)) k)
-          (λ us m a. acc us (may y.1 us m) a)
-          ([], acc [] tt ([], refl))
-          inner)
-      | Err f ↦ λ d. at_start end x.token x xs s refl (d ∙ ap (λ (z : Refusal). Err z) (err_is f s (sym (all_of-stop end x xs f d) ∙ e)))
-    ] refl
+  read_whole : (ts : List Lexed) (s : Refusal) → AreWhole ts → Read ts s → ⊥
+  read_whole ts s (ss, (fs, f, e)) r = never_both (read ts) (fs, []) s (fits_template end document (document_regular) fs ts [] f) r
 
--- ---- a fault is the first fault
+  begun_of : (ts : List Lexed) → Begun accepts ts → AreBegun ts
+  begun_of ts (more, a) = (more, whole_of (ts ++ more) a)
 
-never_both : (end : ℕ) (ts : List Lexed) (ss : List Statement) (s : Refusal) → AreStatements ss ts → all_of end ts ≡ Err s → ⊥
-never_both end ts ss s a e = let h : ◌≡◌ {A = Result (List Statement) Refusal} (Ok ss) (Err s) = sym (all_complete end ss ts a) ∙ e in cc
+  not_begun : (front : List Lexed) (x : Lexed) (s : Refusal) → ((ys : List Lexed) → Read (front ++ x ∷ ys) s) → ¬ AreBegun (front ++ x ∷ [])
+  not_begun front x s same = λ b. read_whole (front ++ x ∷ b.0) s (subst (λ (us : List Lexed). AreWhole us) (append_assoc front (x ∷ []) b.0) b.1) (same b.0)
 
-not_begun : (end : ℕ) (front : List Lexed) (x : Lexed) (s : Refusal) → ((ys : List Lexed) → all_of end (front ++ x ∷ ys) ≡ Err s) → ¬ AreBegun (front ++ x ∷ [])
-not_begun end front x s same = λ b. never_both end (front ++ x ∷ b.0) b.1.0 s (rw append_assoc at b.1.1) (same b.0)
+  wants : (front : List Lexed) (e : List ℕ) (n : ℕ) (more : List Lexed) → accepts (front ++ numbered e n ∷ more) → WantsNumber front
+  wants front e n more a = (e, n, (more, subst (λ (us : List Lexed). AreWhole us) (sym (append_assoc front (numbered e n ∷ []) more)) (whole_of (front ++ numbered e n ∷ more) a)))
 
-kind_is : (end : ℕ) (front : List Lexed) (kind : TextKind) (k : Token) → Kinds (all_of end) AreWhole front kind k → HasKind (WantsNumber front) k kind
-kind_is end front kind (Bad j) h = h
-kind_is end front kind (Word j) h = h
-kind_is end front kind (String j) h = h
-kind_is end front kind (Mark j) h = h
-kind_is end front kind (Number d) (inl h) = (λ w. h.0, λ n. absurd (n (h.1.0, h.1.1, (h.1.2, rw append_assoc h.1.3))))
-kind_is end front kind (Number d) (inr h) = (λ w. absurd (not_begun end front (numbered w.0 w.1) (fault_at Unexpected w.1) (λ ys. h.1 w.0 w.1 ys) w.2), λ n. h.0)
+  wants_not : (front : List Lexed) → ((e : List ℕ) (n : ℕ) (ys : List Lexed) → Read (front ++ numbered e n ∷ ys) (fault_at Unexpected n)) → ¬ WantsNumber front
+  wants_not front h = λ w. not_begun front (numbered w.0 w.1) (fault_at Unexpected w.1) (λ ys. h w.0 w.1 ys) w.2
 
-stops_at : (end : ℕ) (ts front back : List Lexed) (s : Refusal) → ts ≡ front ++ back → all_of end ts ≡ Err s → AtBack (all_of end) AreWhole end front s back → StopsAt end front back s
-stops_at end ts front [] s q e h = ((λ w. never_both end front w.0 s w.1 (ap (all_of end) (sym (append-nil front) ∙ sym q) ∙ e)), h)
-stops_at end ts front (x ∷ xs) s q e h = (not_begun end front x s h.0, kind_is end front s.kind x.token h.1, h.2)
+  own_is : (front : List Lexed) (kind : TextKind) (k : Token) → Own read accepts stops front kind k → HasOwnKind (WantsNumber front) k kind
+  own_is front kind (Bad j) h = h
+  own_is front kind (Word j) h = h
+  own_is front kind (String j) h = h
+  own_is front kind (Mark j) h = h
+  own_is front kind (Number d) (inl h) = (λ w. h.0, λ n. absurd (n (wants front h.1.0 h.1.1 h.1.2 h.1.3)))
+  own_is front kind (Number d) (inr h) = (λ w. absurd (wants_not front h.1 w), λ n. h.0)
 
-pub first_fault : (end : ℕ) (ts : List Lexed) (s : Refusal) → all_of end ts ≡ Err s → IsFirstTokenFault end ts s
-first_fault end ts s e =
-    let h = all_halts end (length ts) ts s (omega arith) e in
-    record { front = h.front; back = h.back; tokens_are = h.tokens_are; begun = h.begun; stops = stops_at end ts h.front h.back s h.tokens_are e h.at }
+  -- where the template stops, reading gives that kind
+  stop_kind : (front : List Lexed) (x : Lexed) (s : Refusal) (k : TextKind) → ((ys : List Lexed) → Read (front ++ x ∷ ys) s) → stops front x k → s.kind ≡ k
+  stop_kind front x s k same h =
+      let e = stops_read end document (document_regular) front x k h x [] (λ p. refl) in
+      ap (λ (z : Refusal). z.kind) (err_is s (fault_at k x.line) (sym (same []) ∙ e))
 
--- ---- a first fault is what reading gives
+  kind_is : (front : List Lexed) (x : Lexed) (s : Refusal) → ((ys : List Lexed) → Read (front ++ x ∷ ys) s) → Kinds read accepts stops front s.kind x → HasKind front x s.kind
+  kind_is front x s same (inl h) = (λ k g. stop_kind front x s k same g, inl h)
+  kind_is front x s same (inr h) = (λ k g. stop_kind front x s k same g, inr (own_is front s.kind x.token h))
 
--- the first front is the shorter one
-abbrev Shorter : List Lexed → List Lexed → List Lexed → Type 0
-Shorter front back other = (x : Lexed) × (xs : List Lexed) × (more : List Lexed) × (back ≡ x ∷ xs) × (other ≡ front ++ x ∷ more)
+  stops_at : (ts front back : List Lexed) (s : Refusal) → ts ≡ front ++ back → Read ts s → AtBack read accepts stops end front s back → StopsAt end front back s
+  stops_at ts front [] s q e h = ((λ w. read_whole front s w (ap read (sym (append-nil front) ∙ sym q) ∙ e)), h)
+  stops_at ts front (x ∷ xs) s q e h = (not_begun front x s h.0, kind_is front x s h.0 h.1, h.2)
 
-cons_is : (x y : Lexed) (xs ys : List Lexed) → x ∷ xs ≡ y ∷ ys → (x ≡ y) × (xs ≡ ys)
-cons_is x y xs ys e = (cc, cc)
+  halts : (ts : List Lexed) (s : Refusal) → Read ts s → Halts read accepts stops end ts s
+  halts ts s e = template_halts end document [] (document_regular) (document_live) ts s e
 
-two_fronts : (f1 b1 f2 b2 : List Lexed) → f1 ++ b1 ≡ f2 ++ b2 → ((f1 ≡ f2) × (b1 ≡ b2)) ⊎ (Shorter f1 b1 f2 ⊎ Shorter f2 b2 f1)
-two_fronts [] b1 [] b2 e = inl (refl, e)
-two_fronts [] b1 (y ∷ f2) b2 e = inr (inl (y, f2 ++ b2, f2, e, refl))
-two_fronts (x ∷ f1) b1 [] b2 e = inr (inr (x, f1 ++ b1, f1, sym e, refl))
-two_fronts (x ∷ f1) b1 (y ∷ f2) b2 e =
-    let p = cons_is x y (f1 ++ b1) (f2 ++ b2) e in
-    elim (two_fronts f1 b1 f2 b2 p.1) [
-      | inl h ↦ inl ((λ i. p.0 i ∷ h.0 i), h.1)
-      | inr (inl (z, zs, more, u, v)) ↦ inr (inl (z, zs, more, u, λ i. sym p.0 i ∷ v i))
-      | inr (inr (z, zs, more, u, v)) ↦ inr (inr (z, zs, more, u, λ i. p.0 i ∷ v i))
-    ]
+  pub first_fault : (ts : List Lexed) (s : Refusal) → all_of end ts ≡ Err s → IsFirstTokenFault end ts s
+  first_fault ts s e =
+      let r = bind_err (read ts) (λ x. map statement_of x.0) s e in
+      let h = halts ts s r in
+      record { front = h.front; back = h.back; tokens_are = h.tokens_are; begun = begun_of h.front h.begun; stops = stops_at ts h.front h.back s h.tokens_are r h.at }
 
--- a front that begins a list is no longer than one that no list goes on from
-never_longer : (front other : List Lexed) (x : Lexed) (more : List Lexed) → other ≡ front ++ x ∷ more → AreBegun other → AreBegun (front ++ x ∷ [])
-never_longer front other x more e b =
-    (more ++ b.0, rw (append_assoc) (subst (λ (us : List Lexed). AreWhole us) (ap (λ (us : List Lexed). us ++ b.0) e ∙ append_assoc front (x ∷ more) b.0) b.1))
+  -- ---- a first fault is what reading gives
 
-stops_there : (end : ℕ) (front back : List Lexed) (r : Refusal) (x : Lexed) (xs : List Lexed) → back ≡ x ∷ xs → StopsAt end front back r → ¬ AreBegun (front ++ x ∷ [])
-stops_there end front back r x xs e h = (subst (λ (us : List Lexed). StopsAt end front us r) e h).0
+  -- the first front is the shorter one
+  abbrev Shorter : List Lexed → List Lexed → List Lexed → Type 0
+  Shorter front back other = (x : Lexed) × (xs : List Lexed) × (more : List Lexed) × (back ≡ x ∷ xs) × (other ≡ front ++ x ∷ more)
 
-halts_there : (end : ℕ) (front back : List Lexed) (s : Refusal) (x : Lexed) (xs : List Lexed) → back ≡ x ∷ xs → AtBack (all_of end) AreWhole end front s back → ¬ AreBegun (front ++ x ∷ [])
-halts_there end front back s x xs e h = not_begun end front x s (subst (λ (us : List Lexed). AtBack (all_of end) AreWhole end front s us) e h).0
+  cons_is : (x y : Lexed) (xs ys : List Lexed) → x ∷ xs ≡ y ∷ ys → (x ≡ y) × (xs ≡ ys)
+  cons_is x y xs ys e = (cc, cc)
 
-same_kind : (end : ℕ) (front : List Lexed) (k : Token) (a b : TextKind) → HasKind (WantsNumber front) k a → Kinds (all_of end) AreWhole front b k → a ≡ b
-same_kind end front (Bad j) a b h g = h ∙ sym g
-same_kind end front (Word j) a b h g = h ∙ sym g
-same_kind end front (String j) a b h g = h ∙ sym g
-same_kind end front (Mark j) a b h g = h ∙ sym g
-same_kind end front (Number d) a b h (inl g) = h.0 (g.1.0, g.1.1, (g.1.2, rw append_assoc g.1.3)) ∙ sym g.0
-same_kind end front (Number d) a b h (inr g) = h.1 (λ w. not_begun end front (numbered w.0 w.1) (fault_at Unexpected w.1) (λ ys. g.1 w.0 w.1 ys) w.2) ∙ sym g.0
+  two_fronts : (f1 b1 f2 b2 : List Lexed) → f1 ++ b1 ≡ f2 ++ b2 → ((f1 ≡ f2) × (b1 ≡ b2)) ⊎ (Shorter f1 b1 f2 ⊎ Shorter f2 b2 f1)
+  two_fronts [] b1 [] b2 e = inl (refl, e)
+  two_fronts [] b1 (y ∷ f2) b2 e = inr (inl (y, f2 ++ b2, f2, e, refl))
+  two_fronts (x ∷ f1) b1 [] b2 e = inr (inr (x, f1 ++ b1, f1, sym e, refl))
+  two_fronts (x ∷ f1) b1 (y ∷ f2) b2 e =
+      let p = cons_is x y (f1 ++ b1) (f2 ++ b2) e in
+      elim (two_fronts f1 b1 f2 b2 p.1) [
+        | inl h ↦ inl ((λ i. p.0 i ∷ h.0 i), h.1)
+        | inr (inl (z, zs, more, u, v)) ↦ inr (inl (z, zs, more, u, λ i. sym p.0 i ∷ v i))
+        | inr (inr (z, zs, more, u, v)) ↦ inr (inr (z, zs, more, u, λ i. p.0 i ∷ v i))
+      ]
 
-same_place : (end : ℕ) (front back : List Lexed) (r s : Refusal) → StopsAt end front back r → AtBack (all_of end) AreWhole end front s back → r ≡ s
-same_place end front [] r s h g = h.1 ∙ sym g
-same_place end front (x ∷ xs) r s h g =
-    let k = same_kind end front x.token r.kind s.kind h.1 g.1 in
-    let l = h.2 ∙ sym g.2 in
-    λ i. record { kind = k i; line = l i }
+  -- a front that begins a list is no longer than one that no list goes on from
+  never_longer : (front other : List Lexed) (x : Lexed) (more : List Lexed) → other ≡ front ++ x ∷ more → AreBegun other → AreBegun (front ++ x ∷ [])
+  never_longer front other x more e b =
+      (more ++ b.0, subst (λ (us : List Lexed). AreWhole us) (ap (λ (us : List Lexed). us ++ b.0) e ∙ append_assoc front (x ∷ more) b.0 ∙ sym (append_assoc front (x ∷ []) (more ++ b.0))) b.1)
 
-same_fault : (end : ℕ) (ts : List Lexed) (r s : Refusal) → IsFirstTokenFault end ts r → Halts (all_of end) AreWhole end ts s → r ≡ s
-same_fault end ts r s f h =
-    elim (two_fronts f.front f.back h.front h.back (sym f.tokens_are ∙ h.tokens_are)) [
-      | inl (u, v) ↦ same_place end h.front h.back r s (subst (λ (us : List Lexed). StopsAt end h.front us r) v (subst (λ (us : List Lexed). StopsAt end us f.back r) u f.stops)) h.at
-      | inr (inl (x, xs, more, u, v)) ↦ absurd (stops_there end f.front f.back r x xs u f.stops (never_longer f.front h.front x more v h.begun))
-      | inr (inr (x, xs, more, u, v)) ↦ absurd (halts_there end h.front h.back s x xs u h.at (never_longer h.front f.front x more v f.begun))
-    ]
+  stops_there : (front back : List Lexed) (r : Refusal) (x : Lexed) (xs : List Lexed) → back ≡ x ∷ xs → StopsAt end front back r → ¬ AreBegun (front ++ x ∷ [])
+  stops_there front back r x xs e h = (subst (λ (us : List Lexed). StopsAt end front us r) e h).0
 
-no_list : (end : ℕ) (ts front back : List Lexed) (r : Refusal) → ts ≡ front ++ back → StopsAt end front back r → ¬ AreWhole ts
-no_list end ts front [] r q h = λ w. h.0 (subst (λ (us : List Lexed). AreWhole us) (q ∙ append-nil front) w)
-no_list end ts front (x ∷ xs) r q h = λ w. h.0 (xs, rw append_assoc (subst (λ (us : List Lexed). AreWhole us) q w))
+  halts_there : (front back : List Lexed) (s : Refusal) (x : Lexed) (xs : List Lexed) → back ≡ x ∷ xs → AtBack read accepts stops end front s back → ¬ AreBegun (front ++ x ∷ [])
+  halts_there front back s x xs e h = not_begun front x s (subst (λ (us : List Lexed). AtBack read accepts stops end front s us) e h).0
 
-pub fault_read : (end : ℕ) (ts : List Lexed) (r : Refusal) → IsFirstTokenFault end ts r → all_of end ts ≡ Err r
-fault_read end ts r f =
-    elim (all_of end ts) as (λ read. all_of end ts ≡ read → read ≡ Err r) [
-      | Ok ss ↦ λ e. absurd (no_list end ts f.front f.back r f.tokens_are f.stops (ss, all_sound end (length ts) ts ss (omega arith) e))
-      | Err s ↦ λ e. ap (λ (z : Refusal). Err z) (sym (same_fault end ts r s f (all_halts end (length ts) ts s (omega arith) e)))
-    ] refl
+  own_same : (front : List Lexed) (k : Token) (a b : TextKind) → HasOwnKind (WantsNumber front) k a → Own read accepts stops front b k → a ≡ b
+  own_same front (Bad j) a b h g = h ∙ sym g
+  own_same front (Word j) a b h g = h ∙ sym g
+  own_same front (String j) a b h g = h ∙ sym g
+  own_same front (Mark j) a b h g = h ∙ sym g
+  own_same front (Number d) a b h (inl g) = h.0 (wants front g.1.0 g.1.1 g.1.2 g.1.3) ∙ sym g.0
+  own_same front (Number d) a b h (inr g) = h.1 (wants_not front g.1) ∙ sym g.0
+
+  same_kind : (front : List Lexed) (x : Lexed) (a : TextKind) (s : Refusal) → ((ys : List Lexed) → Read (front ++ x ∷ ys) s) → HasKind front x a → Kinds read accepts stops front s.kind x → a ≡ s.kind
+  same_kind front x a s same h (inl g) = h.0 s.kind g
+  same_kind front x a s same (h, inl k) (inr g) = sym (stop_kind front x s a same k)
+  same_kind front x a s same (h, inr k) (inr g) = own_same front x.token a s.kind k g
+
+  same_place : (front back : List Lexed) (r s : Refusal) → StopsAt end front back r → AtBack read accepts stops end front s back → r ≡ s
+  same_place front [] r s h g = h.1 ∙ sym g
+  same_place front (x ∷ xs) r s h g =
+      let k = same_kind front x r.kind s g.0 h.1 g.1 in
+      let l = h.2 ∙ sym g.2 in
+      λ i. record { kind = k i; line = l i }
+
+  same_fault : (ts : List Lexed) (r s : Refusal) → IsFirstTokenFault end ts r → Halts read accepts stops end ts s → r ≡ s
+  same_fault ts r s f h =
+      elim (two_fronts f.front f.back h.front h.back (sym f.tokens_are ∙ h.tokens_are)) [
+        | inl (u, v) ↦ same_place h.front h.back r s (subst (λ (us : List Lexed). StopsAt end h.front us r) v (subst (λ (us : List Lexed). StopsAt end us f.back r) u f.stops)) h.at
+        | inr (inl (x, xs, more, u, v)) ↦ absurd (stops_there f.front f.back r x xs u f.stops (never_longer f.front h.front x more v (begun_of h.front h.begun)))
+        | inr (inr (x, xs, more, u, v)) ↦ absurd (halts_there h.front h.back s x xs u h.at (never_longer h.front f.front x more v f.begun))
+      ]
+
+  no_list : (ts front back : List Lexed) (r : Refusal) → ts ≡ front ++ back → StopsAt end front back r → ¬ AreWhole ts
+  no_list ts front [] r q h = λ w. h.0 (subst (λ (us : List Lexed). AreWhole us) (q ∙ append-nil front) w)
+  no_list ts front (x ∷ xs) r q h = λ w. h.0 (xs, subst (λ (us : List Lexed). AreWhole us) (q ∙ sym (append_assoc front (x ∷ []) xs)) w)
+
+  pub fault_read : (ts : List Lexed) (r : Refusal) → IsFirstTokenFault end ts r → all_of end ts ≡ Err r
+  fault_read ts r f =
+      elim (all_of end ts) as (λ z. all_of end ts ≡ z → z ≡ Err r) [
+        | Ok ss ↦ λ e. absurd (no_list ts f.front f.back r f.tokens_are f.stops (ss, all_sound end ts ss e))
+        | Err s ↦ λ e. ap (λ (z : Refusal). Err z) (sym (same_fault ts r s f (halts ts s (bind_err (read ts) (λ x. map statement_of x.0) s e))))
+      ] refl

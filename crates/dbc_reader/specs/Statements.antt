@@ -1,13 +1,12 @@
 -- The one list of statements of a text: its statements' tokens, joined in order, are the text's tokens.
-use Rattle.std.specs.Prelude.{◌≡◌, ◌⊎◌, ℕ, true, false, List, [], ◌∷◌, ◌++◌, Ok}
+use Rattle.std.specs.Prelude.{◌≡◌, ℕ, true, false, List, [], ◌∷◌, ◌++◌, Ok, map}
+use Rattle.std.proofs.Common.{inl, inr}
 use Rattle.std.specs.List.{AllByRecursion}
-use Rattle.std.specs.declared.option.Option.TheVariants.{Some}
-use Rattle.dbc_reader.specs.declared.token.Token.TheVariants.{Word}
 use Rattle.dbc_reader.specs.declared.token.Lexed.{Lexed}
 use Rattle.dbc_reader.specs.declared.statement.Statement.{Statement}
 use Rattle.dbc_reader.specs.Spelling.{IsTokenList}
-use Rattle.dbc_reader.specs.Template.{Test, Template, done, one, choose, run, Field, given, passes}
-use Rattle.dbc_reader.specs.Rows.{Row, row_of}
+use Rattle.dbc_reader.specs.Template.{Test, Template, done, take, both, choose, repeat, skip, stop, Kept, given, passes}
+use Rattle.dbc_reader.specs.Document.{statement, statement_of, document}
 use Rattle.dbc_reader.specs.Reading.{too_large}
 
 -- the first token, if there is one, does not pass
@@ -15,36 +14,34 @@ abbrev pub EndsRun : Test → List Lexed → Type 0
 EndsRun p [] = Unit {0}
 EndsRun p (x ∷ xs) = passes p x.token ≡ false
 
+-- there is a first token and it passes
+abbrev pub Passes : Test → List Lexed → Type 0
+Passes p [] = ⊥
+Passes p (x ∷ xs) = passes p x.token ≡ true
+
 -- each of these tokens passes
 abbrev pub Passing : Test → List Lexed → Type 0
 Passing p ts = AllByRecursion (λ x. passes p x.token ≡ true) ts
 
--- the tokens begin with a spelling of the template that keeps these fields, and the rest follows
-abbrev pub Fits : Template → List Field → List Lexed → List Lexed → Type 0
-Fits done fs ts rest = (fs ≡ []) × (ts ≡ rest)
-Fits (one w t) fs ts rest = (x : Lexed) × (xs : List Lexed) × (f : Field) × (gs : List Field) × (ts ≡ x ∷ xs) × (fs ≡ f ∷ gs) × (given w x.token ≡ Ok f) × Fits t gs xs rest
-Fits (choose p w t u) fs ts rest =
-    ((x : Lexed) × (xs : List Lexed) × (f : Field) × (gs : List Field) × (ts ≡ x ∷ xs) × (passes p x.token ≡ true) × (fs ≡ f ∷ gs) × (given w x.token ≡ Ok f) × Fits t gs xs rest)
-    ⊎ (EndsRun p ts × Fits u fs ts rest)
-Fits (run p t) fs ts rest = (front : List Lexed) × (behind : List Lexed) × (ts ≡ front ++ behind) × Passing p front × EndsRun p behind × Fits t fs behind rest
+-- the tokens begin with these rounds, each where the next token passes, and the rest follows
+abbrev pub Rounds : {A : Type 0} → (A → List Lexed → List Lexed → Type 0) → Test → List A → List Lexed → List Lexed → Type 0
+Rounds fit p [] ts rest = ts ≡ rest
+Rounds fit p (f ∷ fs) ts rest = Passes p ts × ((mid : List Lexed) × fit f ts mid × Rounds fit p fs mid rest)
 
--- the tokens begin with this statement, and the rest follows
-pub record BeginsWith (s : Statement) (ts rest : List Lexed) : Type 0 where
-  pub first : Lexed
-  pub others : List Lexed
-  pub name : List ℕ
-  pub row : Row
-  pub fields : List Field
-  pub tokens_are : ts ≡ first ∷ others
-  pub word_is : first.token ≡ Word name
-  pub row_is : row_of name ≡ Some row
-  pub fits : Fits row.template fields others rest
-  pub made : s ≡ record { line = first.line; body = row.body fields }
+-- the tokens begin with a spelling of the template that keeps this, and the rest follows
+abbrev pub Fits : (t : Template) → Kept t → List Lexed → List Lexed → Type 0
+Fits done f ts rest = ts ≡ rest
+Fits (take w) f ts rest = (x : Lexed) × (ts ≡ x ∷ rest) × (given w x ≡ Ok f)
+Fits (both t u) f ts rest = (mid : List Lexed) × Fits t f.0 ts mid × Fits u f.1 mid rest
+Fits (choose p t u) (inl f) ts rest = Passes p ts × Fits t f ts rest
+Fits (choose p t u) (inr f) ts rest = EndsRun p ts × Fits u f ts rest
+Fits (repeat p t) fs ts rest = Rounds (Fits t) p fs ts rest × EndsRun p rest
+Fits (skip p) f ts rest = (front : List Lexed) × (ts ≡ front ++ rest) × Passing p front × EndsRun p rest
+Fits (stop p kind) f ts rest = EndsRun p ts × (ts ≡ rest)
 
 -- the tokens are these statements and nothing else
 abbrev pub AreStatements : List Statement → List Lexed → Type 0
-AreStatements [] ts = ts ≡ []
-AreStatements (s ∷ ss) ts = (rest : List Lexed) × BeginsWith s ts rest × AreStatements ss rest
+AreStatements ss ts = (fs : List (Kept (statement))) × Fits (document) fs ts [] × (ss ≡ map (statement_of) fs)
 
 -- the text is within the limit, and its tokens are these statements
 abbrev pub IsStatementList : List Statement → List ℕ → Type 0

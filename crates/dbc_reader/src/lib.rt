@@ -8,11 +8,14 @@
 
 mod keyword;
 mod lexing;
+mod mux;
 mod number;
+mod parts;
 mod reading;
+mod rows;
 mod statement;
 mod taking;
 mod token;
 
 pub use reading::statements;
-pub use statement::{Body, Statement};
+pub use statement::{Body, ChoicePair, Owner, Statement, Value};

@@ -1,19 +1,24 @@
 //! From tokens to statements; `end` is the line of the text's end.
-ghost use Rattle.std.specs.Prelude.{◌≡◌, ℕ, ◌^◌, ◌<◌, List, length, IfOk};
+ghost use Rattle.std.specs.Prelude.{◌≡◌, ℕ, ◌^◌, ◌<◌, List, [], length, Ok, Err, IfOk};
 ghost use Rattle.std.specs.Bool.{OnFalse};
 ghost use Rattle.can_model.specs.Refusal.{Refusal, Gives};
-ghost use Rattle.dbc_reader.specs.Rows as rows;
-ghost use Rattle.dbc_reader.specs.Reading.{made_at, statement_at, all_of, too_large, statements_of};
+ghost use Rattle.dbc_reader.specs.Rows.{rows, rows_of_facts};
+ghost use Rattle.dbc_reader.specs.Document as document;
+ghost use Rattle.dbc_reader.specs.Flat.{row_at};
+ghost use Rattle.dbc_reader.specs.Reading.{all_of, too_large, statements_of};
 ghost use Rattle.dbc_reader.specs.Statements.{IsStatementList};
 ghost use Rattle.dbc_reader.specs.Bounds.{AreBounded};
 ghost use Rattle.dbc_reader.specs.FirstFault.{IsFirstFault};
 
 use crate::lexing::{end_line, tokens_of};
+use crate::rows::{
+    read_attribute, read_choices, read_comment, read_default, read_message, read_nodes, read_other,
+    read_ranges_row, read_signal, read_speeds, read_value_type, read_version,
+};
 use crate::statement::{Body, Statement};
-use crate::taking::{fault, past_names, take_mark, take_whole, take_word};
+use crate::taking::{Check, fault, past_run};
 use crate::token::{Lexed, Token};
 use can_model::{TEXT_LIMIT, TextFault, TextKind};
-use cg_out::Text;
 use std::alloc::Global;
 
 /// The statements of a DBC text, in their order.
@@ -22,7 +27,7 @@ use std::alloc::Global;
 ///
 /// The first fault of the text and its line: the first token that no statements go on with, or
 /// the end inside a statement. A text longer than `TEXT_LIMIT` is TooLarge at line 0, whatever
-/// else is wrong with it. Or memory ran out.
+/// else is wrong with it. Words of multiplexed signals are NotYet. Or memory ran out.
 pub fn statements(alloc: Global, text: &[u8]) -> Result<Vec<Statement>, TextFault>
     ensures exact { Gives (λ v. v.items) result (statements_of text.now) }
 
@@ -36,7 +41,7 @@ pub fn statements(alloc: Global, text: &[u8]) -> Result<Vec<Statement>, TextFaul
         → IsFirstFault text.now (record { kind = kind; line = line }) }
     ensures refused { (r : Refusal) → IsFirstFault text.now r → Gives (λ v. v.items) result (Err r) }
 
-    // The numbers of a message have 32 and 16 bits.
+    // The ids of messages have 32 bits; their lengths, and signals' starts and lengths, have 16.
     ensures bounded { IfOk result (λ v. AreBounded v.items) }
 {
     if is_too_large(text) {
@@ -67,74 +72,93 @@ fn read_all(alloc: Global, tokens: &[Lexed], end: u32) -> Result<Vec<Statement>,
     Ok(list)
 }
 
+/// The statement whose first token is this one, and what follows.
 fn read_statement<'a>(
     alloc: Global,
     first: &'a Lexed,
     rest: &'a [Lexed],
     end: u32,
 ) -> Result<(Statement, &'a [Lexed]), TextFault>
-    ensures { Gives (λ s. (s.0, s.1.now)) result (statement_at end first.now rest.now) }
+    ensures { Gives (λ s. (s.0, s.1.now)) result (row_at rows end first.now rest.now) }
+{
+    let line = first.line;
+    let Token::Word(text) = &first.token else {
+        return read_fact(alloc, first, rest, end);
+    };
+    let word = text.bytes();
+    if word == b"VERSION".as_slice() {
+        Ok((skipped(line), read_version(rest)))
+    } else if word == b"NS_".as_slice() {
+        Ok((skipped(line), past_run(Check::Section, rest)))
+    } else if word == b"BS_".as_slice() {
+        Ok((skipped(line), read_speeds(rest, end)?))
+    } else if word == b"BU_".as_slice() {
+        Ok((skipped(line), read_nodes(rest, end)?))
+    } else if word == b"BO_".as_slice() {
+        let (body, rest) = read_message(alloc, rest, end)?;
+        Ok((Statement { line, body }, rest))
+    } else if word == b"SG_".as_slice() {
+        let (body, rest) = read_signal(alloc, rest, end)?;
+        Ok((Statement { line, body }, rest))
+    } else {
+        read_fact(alloc, first, rest, end)
+    }
+}
+
+/// A statement that says more of what is sent, or one of which nothing is kept.
+fn read_fact<'a>(
+    alloc: Global,
+    first: &'a Lexed,
+    rest: &'a [Lexed],
+    end: u32,
+) -> Result<(Statement, &'a [Lexed]), TextFault>
+    ensures { Gives (λ s. (s.0, s.1.now)) result (row_at rows_of_facts end first.now rest.now) }
+{
+    let line = first.line;
+    let Token::Word(text) = &first.token else {
+        return read_other_statement(first, rest, end);
+    };
+    let word = text.bytes();
+    let (body, rest) = if word == b"CM_".as_slice() {
+        read_comment(alloc, rest, end)?
+    } else if word == b"BA_DEF_DEF_".as_slice() {
+        read_default(alloc, rest, end)?
+    } else if word == b"BA_".as_slice() {
+        read_attribute(alloc, rest, end)?
+    } else if word == b"VAL_".as_slice() {
+        read_choices(alloc, rest, end)?
+    } else if word == b"SIG_VALTYPE_".as_slice() {
+        read_value_type(alloc, rest, end)?
+    } else if word == b"SG_MUL_VAL_".as_slice() {
+        read_ranges_row(alloc, rest, end)?
+    } else {
+        return read_other_statement(first, rest, end);
+    };
+    Ok((Statement { line, body }, rest))
+}
+
+/// A statement of which nothing is kept, to its `;`; or a lone `;`.
+fn read_other_statement<'a>(
+    first: &'a Lexed,
+    rest: &'a [Lexed],
+    end: u32,
+) -> Result<(Statement, &'a [Lexed]), TextFault>
+    ensures { Gives (λ s. (s.0, s.1.now)) result (row_at [] end first.now rest.now) }
 {
     let line = first.line;
     match &first.token {
-        Token::Word(text) => {
-            let word = text.bytes();
-            if word == b"VERSION".as_slice() {
-                Ok((skipped(line), read_version(rest)))
-            } else if word == b"BU_".as_slice() {
-                let rest = read_nodes(rest, end)?;
-                Ok((skipped(line), rest))
-            } else if word == b"BO_".as_slice() {
-                let (body, rest) = read_message(alloc, rest, end)?;
-                Ok((Statement { line, body }, rest))
-            } else {
-                Err(fault(TextKind::Unexpected, line))
-            }
-        }
+        Token::Word(_) => Ok((skipped(line), read_other(rest, end)?)),
+        Token::Mark(b';') => Ok((skipped(line), rest)),
         Token::Bad(kind) => Err(fault(*kind, line)),
         _ => Err(fault(TextKind::Unexpected, line)),
     }
 }
 
 fn skipped(line: u32) -> Statement
-    ensures { result ≡ record { line = line; body = Body.Skipped } }
+    ensures { result ≡ document.skipped line }
 {
     Statement {
         line,
         body: Body::Skipped,
     }
-}
-
-/// An optional string.
-fn read_version(tokens: &[Lexed]) -> &[Lexed]
-    ensures { (end : ℕ) → made_at end rows.version tokens.now ≡ Ok (Body.Skipped, result.now) }
-{
-    let [first, rest @ ..] = tokens else {
-        return tokens;
-    };
-    match &first.token {
-        Token::String(_) => rest,
-        _ => tokens,
-    }
-}
-
-/// `:` and a run of names.
-fn read_nodes(tokens: &[Lexed], end: u32) -> Result<&[Lexed], TextFault>
-    ensures { Gives (λ x. (Body.Skipped, x.now)) result (made_at end rows.nodes tokens.now) }
-{
-    let rest = take_mark(tokens, b':', end)?;
-    Ok(past_names(rest))
-}
-
-/// The id, the name, `:`, the length and the sender.
-fn read_message(alloc: Global, tokens: &[Lexed], end: u32) -> Result<(Body, &[Lexed]), TextFault>
-    ensures { Gives (λ x. (x.0, x.1.now)) result (made_at end rows.message tokens.now) }
-{
-    let (id, rest) = take_whole(tokens, u32::MAX, end)?;
-    let (name, rest) = take_word(rest, end)?;
-    let rest = take_mark(rest, b':', end)?;
-    let (length, rest) = take_whole(rest, 65535, end)?;
-    let (_sender, rest) = take_word(rest, end)?;
-    let name = Text::copy_of(alloc, name.bytes())?;
-    Ok((Body::Message { id, name, length }, rest))
 }

@@ -1,7 +1,10 @@
 use Rattle.std.proofs.Common.{sym, ◌∙◌}
-use Rattle.dbc_reader.proofs.Answered.{is_found, is_only, is_fault, is_refused}
-use Rattle.dbc_reader.proofs.Bounded.{answer-bounded}
+use Rattle.dbc_reader.proofs.Bounded.{answer_bounded}
+use Rattle.dbc_reader.proofs.All.{is_found, is_only, is_fault, is_refused}
 use Rattle.dbc_reader.proofs.reading.statements.Goals as goal
+
+pub returns-clause-exact : goal.returns-clause-exact
+returns-clause-exact c = rw (sym c.is_too_large.ensures.value ∙ c.if-is_too_large.false) (rw (c.end_line.ensures, c.deref.ensures.value, c.in_ok-tokens.ensures) at c.read_all.ensures)
 
 pub returns-clause-found : goal.returns-clause-found
 returns-clause-found c = is_found c.args.text.now c.read_all.result (sym c.is_too_large.ensures.value ∙ c.if-is_too_large.false) (rw (c.end_line.ensures, c.deref.ensures.value, c.in_ok-tokens.ensures) at c.read_all.ensures)
@@ -16,4 +19,4 @@ pub returns-clause-refused : goal.returns-clause-refused
 returns-clause-refused c = λ r h. is_refused c.args.text.now c.read_all.result r (sym c.is_too_large.ensures.value ∙ c.if-is_too_large.false) h (rw (c.end_line.ensures, c.deref.ensures.value, c.in_ok-tokens.ensures) at c.read_all.ensures)
 
 pub returns-clause-bounded : goal.returns-clause-bounded
-returns-clause-bounded c = answer-bounded c.args.text.now c.read_all.result (rw (c.end_line.ensures, c.deref.ensures.value, c.in_ok-tokens.ensures) at c.read_all.ensures)
+returns-clause-bounded c = answer_bounded c.args.text.now c.read_all.result (rw (c.end_line.ensures, c.deref.ensures.value, c.in_ok-tokens.ensures) at c.read_all.ensures)
