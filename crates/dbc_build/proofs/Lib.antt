@@ -1,0 +1,5 @@
+pub mod Putting
+pub mod Noting
+pub mod Kept
+pub mod Worked
+pub mod Alike

@@ -1,8 +1,13 @@
 //! From statements to messages.
-ghost use Rattle.std.specs.Prelude.{◌≡◌, IfOk, IsOkUnless};
-ghost use Rattle.dbc_build.specs.DatabaseOfStatements.{message_of, message_in, is_placeholder, is_kept, database_of};
+ghost use Rattle.std.specs.Prelude.{◌≡◌, filter, IfOk};
+ghost use Rattle.can_model.specs.Formed.{IsFormed, HasNoParents};
+ghost use Rattle.can_model.specs.Refusal.{Gives};
+ghost use Rattle.dbc_build.specs.DatabaseOfStatements.{messages_in, is_placeholder, is_kept, late_signal, database_of};
+ghost use Rattle.dbc_build.specs.Parts.{message_from};
 
-use can_model::{Database, Message, TextFault};
+use crate::facts::Facts;
+use crate::signals::signals;
+use can_model::{Database, Message, TextFault, TextKind};
 use cg_out::{List, Memory, Text};
 use dbc_reader::{Body, Statement};
 use std::alloc::Global;
@@ -13,21 +18,68 @@ const EXTENDED: u32 = 1 << 31;
 /// The name of the message that lists the signals of no message.
 const PLACEHOLDER: &str = "VECTOR__INDEPENDENT_SIG_MSG";
 
-/// The messages of the `BO_` statements, in their order, without the one that lists the signals
-/// of no message.
+/// The messages of the `BO_` statements, in their order, each with the signals of the `SG_`
+/// statements up to the next `BO_`; without the one that lists the signals of no message.
+///
+/// Names are the long ones where attributes give them. Where statements say something of one
+/// message or signal more than once, the last one counts; what they say of others is ignored. A
+/// start value and choices that are no raw values of their signal are left out.
+///
+/// # Errors
+///
+/// `LateSignal` at the line of the first `SG_`, where no `BO_` stands before it, or memory ran
+/// out.
 pub fn database(alloc: Global, list: &[Statement]) -> Result<Database, TextFault>
-    ensures exact { IfOk result (λ d. d ≡ database_of list.now) }
-    ensures only_memory { IsOkUnless result TextFault.Memory }
+    ensures exact { Gives (λ d. d) result (database_of list.now) }
+
+    // What the databases of all readers keep; and no signal is multiplexed yet.
+    ensures formed { IfOk result (λ d. IsFormed d) }
+    ensures no_parents { IfOk result (λ d. HasNoParents d) }
+{
+    built(alloc, list)
+}
+
+fn built(alloc: Global, list: &[Statement]) -> Result<Database, TextFault>
+    ensures { Gives (λ d. d) result (database_of list.now) }
+{
+    if let Some(line) = late_signal(list) {
+        let kind = TextKind::LateSignal;
+        return Err(TextFault::Fault { kind, line });
+    }
+    let facts = Facts::of(alloc, list)?;
+    let messages = messages(alloc, &facts)?;
+    Ok(Database { messages })
+}
+
+/// The line of the first `SG_`, where no `BO_` stands before it.
+fn late_signal(list: &[Statement]) -> Option<u32>
+    ensures { result ≡ late_signal list.now }
+{
+    for statement in list {
+        match &statement.body {
+            Body::Signal { .. } => return Some(statement.line),
+            Body::Message { .. } => return None,
+            _ => {}
+        }
+    }
+    None
+}
+
+/// The messages of the `BO_` statements, in their order, without the placeholder.
+fn messages(alloc: Global, facts: &Facts) -> Result<List<Message>, Memory>
+    ensures { IfOk result (λ m. m ≡ filter is_kept (messages_in facts.now facts.now)) }
 {
     let mut messages = List::new(alloc);
-    for statement in list {
-        if let Some(message) = read_message(alloc, statement)? {
+    let mut left = facts.list();
+    while let [statement, rest @ ..] = left {
+        if let Some(message) = message(alloc, facts, statement, rest)? {
             if is_kept(&message) {
                 messages.push(message)?;
             }
         }
+        left = rest;
     }
-    Ok(Database { messages })
+    Ok(messages)
 }
 
 fn is_kept(message: &Message) -> bool
@@ -43,34 +95,26 @@ fn is_placeholder(name: &[u8]) -> bool
     name == PLACEHOLDER.as_bytes()
 }
 
-fn read_message(alloc: Global, statement: &Statement) -> Result<Option<Message>, Memory>
-    ensures { IfOk result (λ m. m ≡ message_in statement.now) }
-{
-    match &statement.body {
-        Body::Message { id, name, length } => {
-            let message = new_message(alloc, statement.line, *id, name, *length)?;
-            Ok(Some(message))
-        }
-        Body::Skipped => Ok(None),
-    }
-}
-
-fn new_message(
+/// The message of a `BO_` statement, with the signals behind it.
+fn message(
     alloc: Global,
-    line: u32,
-    id: u32,
-    name: &Text,
-    length: u32,
-) -> Result<Message, Memory>
-    ensures { IfOk result (λ m. m ≡ message_of line id name.now length) }
+    facts: &Facts,
+    statement: &Statement,
+    rest: &[Statement],
+) -> Result<Option<Message>, Memory>
+    ensures { IfOk result (λ m. m ≡ message_from facts.now statement.now.line statement.now.body rest.now) }
 {
-    Ok(Message {
-        id: id % EXTENDED,
-        extended: id >= EXTENDED,
-        name: Text::copy_of(alloc, name.bytes())?,
-        length,
-        cycle: None,
-        comment: Text::copy_of(alloc, b"")?,
-        line,
-    })
+    let Body::Message { id, name, length } = &statement.body else {
+        return Ok(None);
+    };
+    Ok(Some(Message {
+        id: *id % EXTENDED,
+        extended: *id >= EXTENDED,
+        name: Text::copy_of(alloc, facts.message_name(*id, name.bytes()))?,
+        length: *length,
+        cycle: facts.cycle(*id),
+        comment: Text::copy_of(alloc, facts.comment((*id, None)))?,
+        signals: signals(alloc, facts, *id, rest)?,
+        line: statement.line,
+    }))
 }

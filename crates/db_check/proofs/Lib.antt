@@ -1,0 +1,9 @@
+pub mod KindOrder
+pub mod Elements
+pub mod TakenPlaces
+pub mod SignalFaults
+pub mod MessageFaults
+pub mod AllSignals
+pub mod FirstFaults
+pub mod OneFirst
+pub mod Worked
