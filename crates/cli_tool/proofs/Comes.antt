@@ -6,7 +6,7 @@ use Rattle.std.specs.declared.option.Option.TheVariants.{None, Some}
 use Rattle.std.specs.FinMap.{get}
 use Rattle.cg_out.specs.Outside.{Folder, FilesSeen, Rose}
 use Rattle.cli_tool.specs.World.{World, HasText}
-use Rattle.cli_tool.specs.Task.{Input, Task, Answer, status_of, outputs_of, answer_of}
+use Rattle.cli_tool.specs.Task.{Input, Task, Answer, status_of, outputs_of, Gives}
 use Rattle.cli_tool.specs.Reading.{OfTexts, HasTexts, FailsAtInput}
 use Rattle.cli_tool.specs.TaskEnds.{FailsToWrite, TaskEnds}
 use Rattle.cli_tool.specs.MustCome.{IsLeftOpen, MustCome}
@@ -14,11 +14,15 @@ use Rattle.cli_tool.specs.declared.status.Status.{Status}
 use Rattle.cli_tool.specs.declared.status.Status.TheVariants.{Done, Negative, Usage, Refused, FileFault, OutFault, NoMemory}
 use Rattle.cli_tool.proofs.Cut.{both_of_texts}
 
+-- texts give one answer
+abbrev pub IsDecided : Task → Type 0
+IsDecided task = (texts : List (List ℕ)) (a b : Answer) → Gives task texts a → Gives task texts b → a ≡ b
+
 -- the one answer of texts that are told
-same_answer : (task : Task) (files : FilesSeen) (a b : Answer) → HasTexts files task.inputs (λ texts. answer_of task texts ≡ a) → OfTexts files task.inputs (λ texts. answer_of task texts ≡ b) → a ≡ b
-same_answer task files a b t h =
-    let both = both_of_texts files task.inputs (λ texts. answer_of task texts ≡ a) (λ texts. answer_of task texts ≡ b) t h in
-    sym both.1 ∙ both.2
+same_answer : (task : Task) → IsDecided task → (files : FilesSeen) (a b : Answer) → HasTexts files task.inputs (λ texts. Gives task texts a) → OfTexts files task.inputs (λ texts. Gives task texts b) → a ≡ b
+same_answer task decided files a b t h =
+    let both = both_of_texts files task.inputs (λ texts. Gives task texts a) (λ texts. Gives task texts b) t h in
+    decided both.0 a b both.1 both.2
 
 -- a file whose text is told is there
 is_there : (P : List ℕ → Type 0) (files : FilesSeen) (file : List ℕ) → HasText files file P → IsSomeAnd files.content (λ folder. get folder file ≡ None) → ⊥
@@ -48,15 +52,15 @@ are_there files (i ∷ front) missed rest P t a =
 some_of : {A : Type 0} (xs front : List A) (x : A) (rest : List A) → xs ≡ front ++ x ∷ rest → 0 < length xs
 some_of xs front x rest e = rw e (omega (arith, length-append front (x ∷ rest)))
 
-pub comes : (task : Task) (old new : World) (status : Status) → TaskEnds task old new status → MustCome task old new status
-comes task old new status e answer t = by_status status e where
-  same : (a : Answer) → OfTexts old.files task.inputs (λ texts. answer_of task texts ≡ a) → answer ≡ a
-  same a h = same_answer task old.files answer a t h
+pub comes : (task : Task) → IsDecided task → (old new : World) (status : Status) → TaskEnds task old new status → MustCome task old new status
+comes task decided old new status e answer t = by_status status e where
+  same : (a : Answer) → OfTexts old.files task.inputs (λ texts. Gives task texts a) → answer ≡ a
+  same a h = same_answer task decided old.files answer a t h
 
   by_cause : (f : FailsAtInput task.inputs old.files new.files) → Rose old.files.faults new.files.faults ⊎ IsSomeAnd old.files.content (λ folder. get folder f.missed.file ≡ None) → IsLeftOpen task answer old new FileFault
   by_cause f (inl r) = inr (inl (refl, r, omega (arith, some_of task.inputs f.front f.missed f.rest f.inputs_are)))
   by_cause f (inr a) =
-      absurd (are_there old.files f.front f.missed f.rest (λ texts. answer_of task texts ≡ answer) (subst (λ (is : List Input). HasTexts old.files is (λ texts. answer_of task texts ≡ answer)) f.inputs_are t) a)
+      absurd (are_there old.files f.front f.missed f.rest (λ texts. Gives task texts answer) (subst (λ (is : List Input). HasTexts old.files is (λ texts. Gives task texts answer)) f.inputs_are t) a)
 
   by_write : FailsToWrite task old.files new.files → IsLeftOpen task answer old new FileFault
   by_write w =

@@ -1,10 +1,10 @@
 -- One byte more than a text may have tells as much as all bytes.
-use Rattle.std.proofs.Common.{◌≡◌, inl, inr, ℕ, ◌+◌, Bool, true, false, cond, ◌&&◌, List, [], ◌∷◌, length, take, refl, ap, ◌∙◌, arith, length-take}
+use Rattle.std.proofs.Common.{◌≡◌, inl, inr, ℕ, ◌+◌, Bool, true, false, ◌&&◌, List, [], ◌∷◌, length, take, refl, ap, subst, ◌∙◌, arith, length-take}
 use Rattle.std.proofs.lemmas.Bool.{cases_lt}
 use Rattle.std.proofs.lemmas.List.{take_all}
-use Rattle.std.specs.Prelude.{nat_le}
+use Rattle.std.specs.Prelude.{nat_le, MatchBool}
 use Rattle.cg_out.specs.Outside.{FilesSeen}
-use Rattle.cli_tool.specs.Task.{Input, Task, refused, are_within, answer_of}
+use Rattle.cli_tool.specs.Task.{Input, Answer, Task, refused, are_within, Gives}
 use Rattle.cli_tool.specs.Report.{too_large_report}
 use Rattle.cli_tool.specs.Reading.{OfTexts, HasTexts, AreRead}
 use Rattle.cli_tool.proofs.Texts.{Both, OfText-weaker, both_of_text}
@@ -63,13 +63,13 @@ whole-cut [] [] (whole ∷ wholes) c w = absurd c
 whole-cut (i ∷ is) [] wholes c w = absurd c
 whole-cut (i ∷ is) (text ∷ texts) [] c w = absurd c
 
-pub answer-cut : (task : Task) (texts wholes : List (List ℕ)) → AreCut task.inputs texts wholes → answer_of task texts ≡ answer_of task wholes
-answer-cut task texts wholes c =
+pub answer-cut : (task : Task) (texts wholes : List (List ℕ)) (answer : Answer) → AreCut task.inputs texts wholes → Gives task texts answer → Gives task wholes answer
+answer-cut task texts wholes answer c g =
     let same = are_within-cut task.inputs texts wholes c in
-    ap (λ (b : Bool). cond b (task.work texts) (refused too_large_report)) same ∙ by_size (are_within task.inputs wholes) refl where
-      by_size : (b : Bool) → are_within task.inputs wholes ≡ b → cond b (task.work texts) (refused too_large_report) ≡ cond b (task.work wholes) (refused too_large_report)
-      by_size true w = ap task.work (whole-cut task.inputs texts wholes c w)
-      by_size false w = refl
+    by_size (are_within task.inputs wholes) refl (subst (λ (b : Bool). MatchBool b (task.gives texts answer) (answer ≡ refused too_large_report)) same g) where
+      by_size : (b : Bool) → are_within task.inputs wholes ≡ b → MatchBool b (task.gives texts answer) (answer ≡ refused too_large_report) → MatchBool b (task.gives wholes answer) (answer ≡ refused too_large_report)
+      by_size true w h = subst (λ (ts : List (List ℕ)). task.gives ts answer) (whole-cut task.inputs texts wholes c w) h
+      by_size false w h = h
 
 -- ---- what is said of texts in two ways
 

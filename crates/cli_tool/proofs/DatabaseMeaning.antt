@@ -1,118 +1,124 @@
--- A database that is read has small numbers and different identifiers, so its header declares its constants.
-use Rattle.std.proofs.Common.{◌≡◌, ℕ, ◌≤◌, Bool, true, false, cond, List, [], ◌∷◌, length, Result, Ok, Err, refl, subst, arith}
+-- A valid database has small numbers; where its messages have different identifiers, its header declares its constants.
+use Rattle.std.proofs.Common.{◌≡◌, ℕ, suc, ◌≤◌, Bool, true, false, cond, not, ◌&&◌, ◌||◌, List, [], ◌∷◌, map, take, Ok, Err, Result, refl, sym, ap, subst, ◌∙◌, arith}
+use Rattle.std.specs.Prelude.{nat_lt, slice_get, IsSomeAnd, MatchBool, bytes_eq}
+use Rattle.std.specs.List.{list_any}
+use Rattle.std.specs.Bool.{Decides, one_answer}
 use Rattle.std.specs.declared.option.Option.{Option}
 use Rattle.std.specs.declared.option.Option.TheVariants.{None, Some}
-use Rattle.std.specs.List.{filter, filter_map, cons_option}
-use Rattle.can_model.specs.Refusal.{Refusal}
+use Rattle.std.proofs.lemmas.Bool.Decides.{nat_tests}
+use Rattle.std.proofs.lemmas.Slice.Eq.{bytes_eq-Decides}
 use Rattle.can_model.specs.declared.database.Message.{Message}
 use Rattle.can_model.specs.declared.database.Database.{Database}
-use Rattle.dbc_reader.specs.declared.statement.Statement.{Statement}
-use Rattle.dbc_reader.specs.declared.statement.Body.{Body}
-use Rattle.dbc_reader.specs.declared.statement.Body.TheVariants as bodies
-use Rattle.can_model.specs.declared.refusal.TextKind.TheVariants.{TooLarge}
-use Rattle.dbc_reader.specs.Tokens.{tokens, end_line}
-use Rattle.dbc_reader.specs.Reading.{fault_at, all_of, statements_of}
-use Rattle.dbc_reader.specs.Reading.{too_large as is_too_large}
-use Rattle.dbc_reader.specs.Statements.{IsStatementList}
-use Rattle.dbc_reader.proofs.TokenSpelling.{tokens_spelled}
-use Rattle.dbc_reader.proofs.Exact.{all_sound}
-use Rattle.dbc_reader.specs.Bounds.{IsBoundedBody, AreBounded}
-use Rattle.dbc_reader.proofs.Bounded.{statements-bounded}
-use Rattle.dbc_build.specs.DatabaseOfStatements.{message_of, message_from, message_in, is_kept, database_of}
+use Rattle.can_model.specs.declared.check_kind.CheckKind.{CheckKind}
+use Rattle.can_model.specs.declared.check_kind.CheckKind.TheVariants.{FrameIdRange, MessageTooLong}
+use Rattle.can_model.specs.Validity.{Fault, message, greatest_id, message_has, IsValid}
 use Rattle.name_rules.specs.Distinct.{are_distinct}
+use Rattle.name_rules.specs.Identifier.{identifier_of}
 use Rattle.name_rules.specs.IsIdentifier.{IsIdentifier}
 use Rattle.name_rules.proofs.Shape.{identifier_of-IsIdentifier}
-use Rattle.cli_tool.specs.FileName.{base_name, stem_of, database_name, is_sym}
+use Rattle.db_text.specs.DatabaseOfText.{DatabaseRefusal, in_text, Spells}
 use Rattle.gen_unit.specs.Header.{header_text}
-use Rattle.cli_tool.specs.HeaderInFile.{not_yet, identifiers_of, named_apart, database_of_read, database_in}
-use Rattle.cli_tool.specs.HeaderOfFile.{IsDatabaseOf}
 use Rattle.gen_unit.specs.HeaderMeaning.{DeclaresConstants}
 use Rattle.gen_unit.specs.Small.{IsSmallMessage, AreSmall}
 use Rattle.gen_unit.proofs.Meaning.{header-declares}
+use Rattle.cli_tool.specs.FileName.{base_name, stem_of, database_name, is_sym}
+use Rattle.cli_tool.specs.HeaderInFile.{not_yet, IsIn, twice_named}
 
 -- ---- small numbers
 
-small-message : (line : ℕ) (id : ℕ) (name : List ℕ) (len : ℕ) → id ≤ 4294967295 → len ≤ 65535 → IsSmallMessage (message_of line id name len)
-small-message line id name len h k = record { id = omega arith; length = omega arith }
+small_id : (extended : Bool) (id : ℕ) → ¬ (nat_lt (greatest_id extended) id ≡ true) → id ≤ 536870911
+small_id true id h = by_test (nat_lt 536870911 id) refl where
+  by_test : (b : Bool) → nat_lt 536870911 id ≡ b → id ≤ 536870911
+  by_test true e = absurd (h e)
+  by_test false e = grind (arith, nat_tests)
+small_id false id h = by_test (nat_lt 2047 id) refl where
+  by_test : (b : Bool) → nat_lt 2047 id ≡ b → id ≤ 536870911
+  by_test true e = absurd (h e)
+  by_test false e = grind (arith, nat_tests)
 
-abbrev IfThere : Option Message → Type 0
-IfThere None = Unit {0}
-IfThere (Some m) = IsSmallMessage m
+short : (len : ℕ) → ¬ (nat_lt 2048 len ≡ true) → len ≤ 2048
+short len h = by_test (nat_lt 2048 len) refl where
+  by_test : (b : Bool) → nat_lt 2048 len ≡ b → len ≤ 2048
+  by_test true e = absurd (h e)
+  by_test false e = grind (arith, nat_tests)
 
-small-from : (line : ℕ) (body : Body) → IsBoundedBody body → IfThere (message_from line body)
-small-from line (bodies.Message id name len) h = small-message line id name len h.0 h.1
-small-from line bodies.Skipped h = tt
+-- no message of a valid database has a fault of its own
+none_of_message : (db : Database) → IsValid db → (i : ℕ) (m : Message) → slice_get db.messages i ≡ Some m → (kind : CheckKind) → ¬ (message_has (take i db.messages) m kind ≡ true)
+none_of_message db valid i m at kind has =
+    let f : Fault = record { kind = kind; line = m.line; message = m.name; signal = [] } in
+    valid (message i) f (subst (λ (o : Option Message). IsSomeAnd o (λ n. (message_has (take i db.messages) n kind ≡ true) × (f ≡ record { kind = kind; line = n.line; message = n.name; signal = [] }))) (sym at) (has, refl))
 
-small-cons : (o : Option Message) (ms : List Message) → IfThere o → AreSmall ms → AreSmall (cons_option o ms)
-small-cons None ms h k = k
-small-cons (Some m) ms h k = (h, k)
+small_message : (db : Database) → IsValid db → (i : ℕ) (m : Message) → slice_get db.messages i ≡ Some m → IsSmallMessage m
+small_message db valid i m at =
+    let a = small_id m.extended m.id (none_of_message db valid i m at FrameIdRange) in
+    let b = short m.length (none_of_message db valid i m at MessageTooLong) in
+    record { id = omega arith; length = omega arith }
 
-small-messages : (ss : List Statement) → AreBounded ss → AreSmall (filter_map message_in ss)
-small-messages [] h = tt
-small-messages (s ∷ ss) h = small-cons (message_in s) (filter_map message_in ss) (small-from s.line s.body h.0) (small-messages ss h.1)
+small_each : (ms : List Message) → ((i : ℕ) (m : Message) → slice_get ms i ≡ Some m → IsSmallMessage m) → AreSmall ms
+small_each [] h = tt
+small_each (m ∷ ms) h = (h 0 m refl, small_each ms (λ i n e. h (suc i) n e))
 
-small-filter : (ms : List Message) → AreSmall ms → AreSmall (filter is_kept ms)
-small-filter [] h = tt
-small-filter (m ∷ ms) h = elim (is_kept m) as (λ b. AreSmall (cond b (m ∷ filter is_kept ms) (filter is_kept ms))) [ true ↦ (h.0, small-filter ms h.1) | false ↦ small-filter ms h.1 ]
+pub small_messages : (db : Database) → IsValid db → AreSmall db.messages
+small_messages db valid = small_each db.messages (small_message db valid)
 
--- ---- databases that are read
+-- ---- different identifiers
 
--- the database is that of the statements that are read, and its messages have their own names
-abbrev IsRead : List ℕ → Database → Type 0
-IsRead text db = (ss : List Statement) × (statements_of text ≡ Ok ss) × (named_apart (database_of ss) ≡ Ok db)
+abbrev id_of : Message → List ℕ
+id_of m = identifier_of m.name
 
-read-of : (text : List ℕ) (read : Result (List Statement) Refusal) (db : Database) → statements_of text ≡ read → database_of_read read ≡ Ok db → IsRead text db
-read-of text (Ok ss) db h e = (ss, h, e)
-read-of text (Err r) db h e = absurd cc
+flipped : (x y : List ℕ) → bytes_eq x y ≡ bytes_eq y x
+flipped x y =
+    let a : Decides (bytes_eq x y) (x ≡ y) = bytes_eq-Decides x y in
+    let b : Decides (bytes_eq y x) (y ≡ x) = bytes_eq-Decides y x in
+    let c : Decides (bytes_eq y x) (x ≡ y) = (λ h. sym (b.0 h), λ h. b.1 (sym h)) in
+    one_answer (bytes_eq x y) (bytes_eq y x) a c
 
-read-in : (file text : List ℕ) (db : Database) → database_in file text ≡ Ok db → IsRead text db
-unfolding database_in
-read-in file text db e = by_test (is_sym file) e where
-  by_test : (b : Bool) → ◌≡◌ {A = Result Database Refusal} (cond b (Err not_yet) (database_of_read (statements_of text))) (Ok db) → IsRead text db
-  by_test true f = absurd cc
-  by_test false f = read-of text (statements_of text) db refl f
+-- of these messages none has one of the identifiers before
+abbrev AreNew : List (List ℕ) → List Message → Type 0
+AreNew before [] = Unit {0}
+AreNew before (m ∷ ms) = (list_any (bytes_eq (id_of m)) before ≡ false) × AreNew before ms
 
-abbrev IsReadable : Database → Type 0
-IsReadable db = AreSmall db.messages × (are_distinct (identifiers_of db) ≡ true)
+or_false : (a b : Bool) → (a || b) ≡ false → (a ≡ false) × (b ≡ false)
+or_false true b e = absurd cc
+or_false false b e = (refl, e)
 
-readable-named : (made db : Database) → AreSmall made.messages → named_apart made ≡ Ok db → IsReadable db
-readable-named made db h e = by_names (are_distinct (identifiers_of made)) refl e where
-  by_names : (r : Bool) → are_distinct (identifiers_of made) ≡ r → ◌≡◌ {A = Result Database Refusal} (cond r (Ok made) (Err not_yet)) (Ok db) → IsReadable db
-  by_names true d f = let same : made ≡ db = cc in subst IsReadable same (h, d)
-  by_names false d f = absurd cc
+-- what is new beside one more is new, and is not that one
+fewer : (x : List ℕ) (before : List (List ℕ)) (ms : List Message) → AreNew (x ∷ before) ms → AreNew before ms
+fewer x before [] h = tt
+fewer x before (m ∷ ms) h = ((or_false (bytes_eq (id_of m) x) (list_any (bytes_eq (id_of m)) before) h.0).1, fewer x before ms h.1)
 
-readable-read : (text : List ℕ) (db : Database) → IsRead text db → IsReadable db
-readable-read text db r =
-    let small = small-filter (filter_map message_in r.0) (small-messages r.0 (statements-bounded text r.0 r.1)) in
-    readable-named (database_of r.0) db small r.2
+not_later : (x : List ℕ) (before : List (List ℕ)) (ms : List Message) → AreNew (x ∷ before) ms → list_any (bytes_eq x) (map id_of ms) ≡ false
+not_later x before [] h = refl
+not_later x before (m ∷ ms) h =
+    let e : bytes_eq x (id_of m) ≡ false = flipped x (id_of m) ∙ (or_false (bytes_eq (id_of m) x) (list_any (bytes_eq (id_of m)) before) h.0).0 in
+    ap (λ (b : Bool). b || list_any (bytes_eq x) (map id_of ms)) e ∙ not_later x before ms h.1
 
--- ---- their statements
+abbrev AreApart : List (List ℕ) → List Message → Type 0
+AreApart before ms = AreNew before ms × (are_distinct (map id_of ms) ≡ true)
 
--- what is read is the text's one list of statements
-statements-stand : (text : List ℕ) (ss : List Statement) → statements_of text ≡ Ok ss → IsStatementList ss text
-statements-stand text ss e = by_size (is_too_large text) refl e where
-  by_size : (b : Bool) → is_too_large text ≡ b → ◌≡◌ {A = Result (List Statement) Refusal} (cond b (Err (fault_at TooLarge 0)) (all_of (end_line text) (tokens text))) (Ok ss) → IsStatementList ss text
-  by_size true n f = absurd cc
-  by_size false n f = (n, (tokens text, tokens_spelled text, all_sound (end_line text) (length (tokens text)) (tokens text) ss (omega arith) f))
+one_more : (before : List (List ℕ)) (m : Message) (ms : List Message) (b : Bool) → list_any (bytes_eq (id_of m)) before ≡ b → (twice_named (id_of m ∷ before) ms ≡ None → AreApart (id_of m ∷ before) ms)
+    → cond b (Some m.line) (twice_named (id_of m ∷ before) ms) ≡ None → AreApart before (m ∷ ms)
+one_more before m ms true n h f = absurd cc
+one_more before m ms false n h f =
+    let later = h f in
+    ((n, fewer (id_of m) before ms later.0), (λ i. not (not_later (id_of m) before ms later.0 i) && later.1 i))
 
-named-same : (made db : Database) → named_apart made ≡ Ok db → db ≡ made
-named-same made db e = by_names (are_distinct (identifiers_of made)) e where
-  by_names : (r : Bool) → ◌≡◌ {A = Result Database Refusal} (cond r (Ok made) (Err not_yet)) (Ok db) → db ≡ made
-  by_names true f = cc
-  by_names false f = absurd cc
+apart : (before : List (List ℕ)) (ms : List Message) → twice_named before ms ≡ None → AreApart before ms
+apart before [] e = (tt, refl)
+apart before (m ∷ ms) e = one_more before m ms (list_any (bytes_eq (id_of m)) before) refl (apart (id_of m ∷ before) ms) e
 
-pub database-stands : (file text : List ℕ) (db : Database) → database_in file text ≡ Ok db → IsDatabaseOf text db
-database-stands file text db e =
-    let r = read-in file text db e in
-    record { statements = r.0; text_is = statements-stand text r.0 r.1; made = named-same (database_of r.0) db r.2 }
+-- ---- headers
 
--- ---- their headers
-
-pub named-identifier : (file : List ℕ) → IsIdentifier (database_name file)
+named-identifier : (file : List ℕ) → IsIdentifier (database_name file)
 unfolding database_name
 named-identifier file = identifier_of-IsIdentifier (stem_of (base_name file))
 
-pub database-declares : (file text : List ℕ) (db : Database) → database_in file text ≡ Ok db → DeclaresConstants (database_name file) db.messages (header_text (database_name file) db.messages)
-database-declares file text db e =
-    let r = readable-read text db (read-in file text db e) in
-    header-declares (database_name file) db.messages (named-identifier file) r.0 r.1
+valid_in : (file text : List ℕ) (db : Database) → IsIn file text (Ok db) → IsValid db
+valid_in file text db = by_name (is_sym file) where
+  by_name : (b : Bool) → MatchBool b (◌≡◌ {A = Result Database DatabaseRefusal} (Ok db) (Err (in_text (not_yet 0)))) (Spells text (Ok db)) → IsValid db
+  by_name true h = absurd cc
+  by_name false h = h.1
+
+pub database_declares : (file text : List ℕ) (db : Database) → IsIn file text (Ok db) → twice_named [] db.messages ≡ None → DeclaresConstants (database_name file) db.messages (header_text (database_name file) db.messages)
+database_declares file text db is_in names =
+    header-declares (database_name file) db.messages (named-identifier file) (small_messages db (valid_in file text db is_in)) (apart [] db.messages names).1

@@ -1,11 +1,11 @@
 -- The steps of a run, joined: what was read, what it gives, what was written and told.
-use Rattle.std.proofs.Common.{◌≡◌, inl, inr, ℕ, ◌+◌, ◌<◌, true, false, List, [], length, refl, sym, subst, ◌∙◌, arith}
+use Rattle.std.proofs.Common.{◌≡◌, inl, inr, ℕ, ◌+◌, ◌<◌, true, false, List, [], length, refl, sym, subst, arith}
 use Rattle.std.specs.declared.option.Option.{Option}
 use Rattle.cg_out.specs.Outside.{Folder, FilesSeen, SinkSeen, IfTold, IsTornWrite}
 use Rattle.cli_tool.specs.World.{World, world}
 use Rattle.cli_tool.specs.Command.{Command, generate_c_source, check, exec}
 use Rattle.cli_tool.specs.Ends.{task_of}
-use Rattle.cli_tool.specs.Task.{Task, Answer, wrong_words, refused, outcome, no_task, status_of, outputs_of, report_of, answer_of}
+use Rattle.cli_tool.specs.Task.{Task, Answer, wrong_words, refused, outcome, no_task, status_of, outputs_of, report_of, Gives}
 use Rattle.cli_tool.specs.Report.{usage_report}
 use Rattle.cli_tool.specs.Reading.{ReadsTexts, HasNotAll}
 use Rattle.cli_tool.specs.Writing.{with_outputs, Puts, WritesFiles, TearsFiles}
@@ -16,13 +16,13 @@ use Rattle.cli_tool.specs.declared.status.Status.TheVariants.{Done, Negative, Us
 use Rattle.cli_tool.proofs.Texts.{calls_sum, no_calls, Rose-earlier}
 use Rattle.cli_tool.proofs.Cut.{of_read, answer-cut}
 
-module _ (task : Task) (answer : Answer) (texts : List (List ℕ)) (old mid : FilesSeen) (r : ReadsTexts task.inputs texts old mid) (given : answer_of task texts ≡ answer) where
+module _ (task : Task) (answer : Answer) (texts : List (List ℕ)) (old mid : FilesSeen) (r : ReadsTexts task.inputs texts old mid) (given : Gives task texts answer) where
   finds : Finds task answer old
   finds = record {
     texts = texts;
     read = r.read;
     given = given;
-    whole = of_read old task.inputs texts r.read (λ ws. answer_of task ws ≡ answer) (λ ws c. sym (answer-cut task texts ws c) ∙ given);
+    whole = of_read old task.inputs texts r.read (λ ws. Gives task ws answer) (λ ws c. answer-cut task texts ws answer c given);
   }
 
   leaves : (new : FilesSeen) → 0 < length task.inputs → WritesFiles 0 (outputs_of answer) mid new → Leaves task answer old new
@@ -51,7 +51,7 @@ module _ (task : Task) (answer : Answer) (texts : List (List ℕ)) (old mid : Fi
   )
 
 pub delivered : (task : Task) (answer : Answer) (texts : List (List ℕ)) (old new : World) (mid : FilesSeen) (status : Status) → 0 < length task.inputs → ReadsTexts task.inputs texts old.files mid
-    → answer_of task texts ≡ answer → Delivers answer (world mid old.out) new status → TaskEnds task old new status
+    → Gives task texts answer → Delivers answer (world mid old.out) new status → TaskEnds task old new status
 delivered task answer texts old new mid status some r given d = by_delivery d where
   at : (own : Status) → status ≡ own → TaskEnds task old new own → TaskEnds task old new status
   at own e g = subst (λ (s : Status). TaskEnds task old new s) (sym e) g

@@ -1,43 +1,26 @@
 -- What `generate_c_source` leaves in the files is a header of the text's database.
-use Rattle.std.proofs.Common.{◌≡◌, ◌⊎◌, inl, inr, ℕ, Bool, true, false, cond, List, [], ◌∷◌, ◌++◌, Result, Ok, Err, refl, sym, subst, ◌∙◌}
-use Rattle.std.specs.Prelude.{IfSome, IsSomeAnd}
+use Rattle.std.proofs.Common.{◌≡◌, ◌⊎◌, inl, inr, ℕ, Bool, true, false, List, [], ◌∷◌, ◌++◌, Result, Ok, Err, refl, sym, subst, ◌∙◌}
+use Rattle.std.specs.Prelude.{IfSome, IsSomeAnd, MatchBool}
 use Rattle.std.specs.declared.option.Option.{Option}
 use Rattle.std.specs.declared.option.Option.TheVariants.{None, Some}
 use Rattle.std.specs.FinMap.{get, insert}
-use Rattle.can_model.specs.Refusal.{Refusal}
 use Rattle.can_model.specs.declared.database.Database.{Database}
 use Rattle.gen_unit.specs.Header.{header_text}
-use Rattle.gen_unit.specs.HeaderMeaning.{DeclaresConstants}
 use Rattle.cg_out.specs.Outside.{Folder, IfTold, IsTornWrite}
 use Rattle.cli_tool.specs.FileName.{database_name, header_path}
-use Rattle.cli_tool.specs.HeaderInFile.{database_in, header_of_database, header_in}
+use Rattle.db_text.specs.DatabaseOfText.{DatabaseRefusal, in_text, in_database}
+use Rattle.cli_tool.specs.HeaderInFile.{IsIn, twice_named, header_output, header_answer, database_answer, HasAnswer}
 use Rattle.cli_tool.specs.HeaderOfFile.{IsHeaderOf, OfHeader, HeaderStands}
 use Rattle.cli_tool.specs.World.{World}
 use Rattle.cli_tool.specs.Report.{too_large_report}
-use Rattle.cli_tool.specs.Task.{Output, Answer, refused, outputs_of, status_of, are_within, answer_of}
-use Rattle.cli_tool.specs.GenerateTask.{header_output, header_answer, database_input, generate_task}
+use Rattle.cli_tool.specs.Task.{Output, Answer, refused, outputs_of, status_of, are_within, Gives}
+use Rattle.cli_tool.specs.GenerateTask.{database_input, generate_task}
 use Rattle.cli_tool.specs.Writing.{with_outputs, Puts}
 use Rattle.cli_tool.specs.TaskEnds.{TaskEnds}
 use Rattle.cli_tool.specs.declared.status.Status.{Status}
 use Rattle.cli_tool.specs.declared.status.Status.TheVariants.{Done, Negative, Usage, Refused, FileFault, OutFault, NoMemory}
 use Rattle.cli_tool.proofs.Texts.{IsSomeAnd-weaker}
-use Rattle.cli_tool.proofs.DatabaseMeaning.{database-stands, database-declares}
-
--- the database of a header that was made
-header_in-Ok : (file : List ℕ) (given : Result Database Refusal) (header : List ℕ) → header_of_database file given ≡ Ok header → (db : Database) × (given ≡ Ok db) × (header ≡ header_text (database_name file) db.messages)
-header_in-Ok file (Ok db) header e = (db, refl, cc)
-header_in-Ok file (Err r) header e = absurd cc
-
-is_header : (file text header : List ℕ) → header_in file text ≡ Ok header → IsHeaderOf file text header
-is_header file text header e =
-    let d = header_in-Ok file (database_in file text) header e in
-    record {
-      db = d.0;
-      database_is = d.1;
-      statements = database-stands file text d.0 d.1;
-      bytes = d.2;
-      meaning = subst (λ (x : List ℕ). DeclaresConstants (database_name file) d.0.messages x) (sym d.2) (database-declares file text d.0 d.1);
-    }
+use Rattle.cli_tool.proofs.DatabaseMeaning.{database_declares}
 
 -- a text is refused and nothing is written, or its header is
 abbrev WritesHeader : List ℕ → List ℕ → Answer → Type 0
@@ -49,19 +32,29 @@ WritesNothing answer = (outputs_of answer ≡ []) × (status_of answer ≡ Refus
 abbrev MayWrite : List ℕ → List ℕ → Answer → Type 0
 MayWrite file text answer = WritesNothing answer ⊎ WritesHeader file text answer
 
-may_write : (file text : List ℕ) (answer : Answer) → answer_of (generate_task file) (text ∷ []) ≡ answer → MayWrite file text answer
-may_write file text answer e = subst (λ (a : Answer). MayWrite file text a) e (by_size (are_within (database_input file ∷ []) (text ∷ []))) where
-  by_header : (given : Result (List ℕ) Refusal) → header_in file text ≡ given → MayWrite file text (header_answer file given)
-  by_header (Ok header) h = inr (header, is_header file text header h, refl)
-  by_header (Err refusal) h = inl (refl, refl)
+module _ (file text : List ℕ) (answer : Answer) where
+  by_names : (db : Database) (twice : Option ℕ) → IsIn file text (Ok db) → twice_named [] db.messages ≡ twice → MayWrite file text (header_answer file db twice)
+  by_names db (Some line) is_in e = inl (refl, refl)
+  by_names db None is_in e = inr (
+    header_text (database_name file) db.messages,
+    record { db = db; database_is = is_in; named_apart = e; bytes = refl; meaning = database_declares file text db is_in e },
+    refl,
+  )
 
-  by_size : (b : Bool) → MayWrite file text (cond b (header_answer file (header_in file text)) (refused too_large_report))
-  by_size true = by_header (header_in file text) refl
-  by_size false = inl (refl, refl)
+  by_given : (given : Result Database DatabaseRefusal) → IsIn file text given → MayWrite file text (database_answer file given)
+  by_given (Ok db) is_in = by_names db (twice_named [] db.messages) is_in refl
+  by_given (Err (in_text refusal)) is_in = inl (refl, refl)
+  by_given (Err (in_database fault)) is_in = inl (refl, refl)
+
+  may_write : Gives (generate_task file) (text ∷ []) answer → MayWrite file text answer
+  may_write g = by_size (are_within (database_input file ∷ []) (text ∷ [])) g where
+    by_size : (b : Bool) → MatchBool b (HasAnswer file text answer) (answer ≡ refused too_large_report) → MayWrite file text answer
+    by_size true (given, is_in, e) = subst (λ (a : Answer). MayWrite file text a) (sym e) (by_given given is_in)
+    by_size false e = subst (λ (a : Answer). MayWrite file text a) (sym e) (inl (refl, refl))
 
 -- where the text is told, this is its answer
 abbrev OfAnswer : List ℕ → Answer → Option Folder → Type 0
-OfAnswer file answer content = IfSome content (λ folder. IsSomeAnd (get folder file) (λ text. answer_of (generate_task file) (text ∷ []) ≡ answer))
+OfAnswer file answer content = IfSome content (λ folder. IsSomeAnd (get folder file) (λ text. Gives (generate_task file) (text ∷ []) answer))
 
 -- where the contents are told, the text has a header of which this is so
 abbrev OfHeaderAt : List ℕ → Option Folder → Option Folder → (List ℕ → Folder → Folder → Type 0) → Type 0
@@ -87,7 +80,7 @@ module _ (file : List ℕ) (answer : Answer) where
   may_put old None h p = inr tt
   may_put None (Some b) h p = absurd (no_more b (outputs_of answer) p)
   may_put (Some a) (Some b) h p = by_text (get a file) h where
-    by_text : (o : Option (List ℕ)) → IsSomeAnd o (λ text. answer_of (generate_task file) (text ∷ []) ≡ answer)
+    by_text : (o : Option (List ℕ)) → IsSomeAnd o (λ text. Gives (generate_task file) (text ∷ []) answer)
         → (◌≡◌ {A = Option Folder} (Some b) (Some a) × (status_of answer ≡ Refused)) ⊎ IsSomeAnd o (λ text. (header : List ℕ) × IsHeaderOf file text header × PutsHeader header a b)
     by_text None e = absurd e
     by_text (Some text) e = by_write (may_write file text answer e) where
@@ -114,7 +107,7 @@ module _ (file : List ℕ) (answer : Answer) where
   may_tear front torn rest old None e h p = tt
   may_tear front torn rest None (Some b) e h p = absurd p
   may_tear front torn rest (Some a) (Some b) e h p =
-      IsSomeAnd-weaker (get a file) (λ text. answer_of (generate_task file) (text ∷ []) ≡ answer) (λ text. (header : List ℕ) × IsHeaderOf file text header × TearsHeader header a b)
+      IsSomeAnd-weaker (get a file) (λ text. Gives (generate_task file) (text ∷ []) answer) (λ text. (header : List ℕ) × IsHeaderOf file text header × TearsHeader header a b)
       (λ text g. by_write text (may_write file text answer g)) h where
         by_write : (text : List ℕ) → MayWrite file text answer → (header : List ℕ) × IsHeaderOf file text header × TearsHeader header a b
         by_write text (inl none) = absurd (none_torn front torn rest (sym none.0 ∙ e))

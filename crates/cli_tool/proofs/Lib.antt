@@ -8,3 +8,5 @@ pub mod Endings
 pub mod Comes
 pub mod Headers
 pub mod FaultlessUnits
+pub mod Decided
+pub mod Answering

@@ -1,5 +1,5 @@
 -- `check HEADER SOURCE`: the first fault of two C texts is told, those of names and types among them, or that they have none.
-use Rattle.std.specs.Prelude.{ℕ, true, List, [], ◌∷◌, Result, Ok, Err}
+use Rattle.std.specs.Prelude.{◌≡◌, ℕ, true, List, [], ◌∷◌, Result, Ok, Err}
 use Rattle.c_lexer.specs.declared.lexing.TheConstants.{SOURCE_LIMIT}
 use Rattle.c_tree.specs.declared.item.Unit.{Unit as Whole}
 use Rattle.c_text.specs.Refusal.{Refusal}
@@ -21,4 +21,4 @@ abbrev pub c_input : List ℕ → Input
 c_input file = record { file = file; limit = SOURCE_LIMIT }
 
 abbrev pub check_task : List ℕ → List ℕ → Task
-check_task header source = record { inputs = c_input header ∷ c_input source ∷ []; work = check_work header }
+check_task header source = record { inputs = c_input header ∷ c_input source ∷ []; gives = λ texts answer. answer ≡ check_work header texts }

@@ -1,5 +1,5 @@
 -- `exec HEADER SOURCE MODEL FUNCTION ARG..`: a function of two C texts is called, and its value and objects are told, or the undefined behaviour that it meets.
-use Rattle.std.specs.Prelude.{ℕ, Bool, true, false, List, [], ◌∷◌, Result, Ok, Err}
+use Rattle.std.specs.Prelude.{◌≡◌, ℕ, Bool, true, false, List, [], ◌∷◌, Result, Ok, Err}
 use Rattle.std.specs.declared.option.Option.{Option}
 use Rattle.std.specs.declared.option.Option.TheVariants.{None, Some}
 use Rattle.c_tree.specs.declared.item.Function.{Function}
@@ -54,5 +54,5 @@ exec_work header m function words texts = wrong_words
 abbrev pub exec_task : List ℕ → List ℕ → DataModel → List ℕ → List (List ℕ) → Task
 exec_task header source m function words = record {
   inputs = c_input header ∷ c_input source ∷ [];
-  work = exec_work header m function words;
+  gives = λ texts answer. answer ≡ exec_work header m function words texts;
 }

@@ -1,39 +1,44 @@
--- What the text of a file gives: a database with a header, or a refusal.
-use Rattle.std.specs.Prelude.{ℕ, if◌then◌else◌, List, map, Result, Ok, Err}
+-- What the text of a database file gives: a database with a header, or a refusal.
+use Rattle.std.specs.Prelude.{◌≡◌, ℕ, true, if◌then◌else◌, List, [], ◌∷◌, Option, Some, None, Result, Ok, Err, bytes_eq, MatchBool}
+use Rattle.std.specs.List.{list_any}
 use Rattle.can_model.specs.declared.database.Database.{Database}
+use Rattle.can_model.specs.declared.database.Message.{Message}
 use Rattle.can_model.specs.declared.refusal.TextKind.TheVariants.{NotYet}
 use Rattle.can_model.specs.Refusal.{Refusal}
-use Rattle.dbc_reader.specs.declared.statement.Statement.{Statement}
-use Rattle.dbc_reader.specs.Reading.{statements_of}
-use Rattle.dbc_build.specs.DatabaseOfStatements.{database_of}
+use Rattle.db_text.specs.DatabaseOfText.{DatabaseRefusal, in_text, in_database, Spells}
 use Rattle.name_rules.specs.Identifier.{identifier_of}
-use Rattle.name_rules.specs.Distinct.{are_distinct}
-use Rattle.cli_tool.specs.FileName.{database_name, is_sym}
 use Rattle.gen_unit.specs.Header.{header_text}
+use Rattle.cli_tool.specs.FileName.{database_name, header_path, is_sym}
+use Rattle.cli_tool.specs.Report.{written_report, refusal_report, fault_report}
+use Rattle.cli_tool.specs.Task.{Output, Answer, refused, outcome}
 
--- what is not read in this version
-abbrev pub not_yet : Refusal
-not_yet = record { kind = NotYet; line = 0 }
+-- what is not read in this version, at this line
+abbrev pub not_yet : ℕ → Refusal
+not_yet line = record { kind = NotYet; line = line }
 
--- messages whose identifiers are equal would share their macros' names
-abbrev pub identifiers_of : Database → List (List ℕ)
-identifiers_of db = map (λ m. identifier_of m.name) db.messages
+-- the database in a file of this name and text, or why there is none; SYM files are not read yet
+abbrev pub IsIn : List ℕ → List ℕ → Result Database DatabaseRefusal → Type 0
+IsIn file text given = MatchBool (is_sym file) (given ≡ Err (in_text (not_yet 0))) (Spells text given)
 
-abbrev pub named_apart : Database → Result Database Refusal
-named_apart db = if are_distinct (identifiers_of db) then Ok db else Err not_yet
+-- the line of the first message whose identifier is that of an earlier one, where these stand before: both would have one macro
+abbrev pub twice_named : List (List ℕ) → List Message → Option ℕ
+twice_named before [] = None
+twice_named before (m ∷ ms) = if list_any (bytes_eq (identifier_of m.name)) before then Some m.line else twice_named (identifier_of m.name ∷ before) ms
 
-abbrev pub database_of_read : Result (List Statement) Refusal → Result Database Refusal
-database_of_read (Ok statements) = named_apart (database_of statements)
-database_of_read (Err refusal) = Err not_yet
+abbrev pub header_output : List ℕ → List ℕ → Output
+header_output file header = record { file = header_path file; bytes = header }
 
--- the database in a file, by its name and its text
-unfoldable pub database_in : List ℕ → List ℕ → Result Database Refusal
-database_in file text = if is_sym file then Err not_yet else database_of_read (statements_of text)
+-- the header is written, unless two messages have one identifier
+abbrev pub header_answer : List ℕ → Database → Option ℕ → Answer
+header_answer file db (Some line) = refused (refusal_report (not_yet line))
+header_answer file db None = outcome true (header_output file (header_text (database_name file) db.messages) ∷ []) (written_report file)
 
-abbrev pub header_of_database : List ℕ → Result Database Refusal → Result (List ℕ) Refusal
-header_of_database file (Ok db) = Ok (header_text (database_name file) db.messages)
-header_of_database file (Err refusal) = Err refusal
+-- the answer for a database, or for what is in its place
+abbrev pub database_answer : List ℕ → Result Database DatabaseRefusal → Answer
+database_answer file (Ok db) = header_answer file db (twice_named [] db.messages)
+database_answer file (Err (in_text refusal)) = refused (refusal_report refusal)
+database_answer file (Err (in_database fault)) = refused (fault_report fault)
 
--- the bytes of the header of the database in a file
-abbrev pub header_in : List ℕ → List ℕ → Result (List ℕ) Refusal
-header_in file text = header_of_database file (database_in file text)
+-- the text of the file has this answer
+abbrev pub HasAnswer : List ℕ → List ℕ → Answer → Type 0
+HasAnswer file text answer = (given : Result Database DatabaseRefusal) × IsIn file text given × (answer ≡ database_answer file given)

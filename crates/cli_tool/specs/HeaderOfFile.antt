@@ -1,29 +1,20 @@
 -- The header of the database in a file, and where it stands.
-use Rattle.std.specs.Prelude.{◌≡◌, ◌⊎◌, ℕ, List, Ok, IsSomeAnd}
+use Rattle.std.specs.Prelude.{◌≡◌, ◌⊎◌, ℕ, List, [], Ok, None, IsSomeAnd}
 use Rattle.std.specs.FinMap.{get, insert}
 use Rattle.cg_out.specs.Outside.{Folder, FilesSeen, IfTold, IsTornWrite}
 use Rattle.can_model.specs.declared.database.Database.{Database}
-use Rattle.dbc_reader.specs.declared.statement.Statement.{Statement}
-use Rattle.dbc_reader.specs.Statements.{IsStatementList}
-use Rattle.dbc_build.specs.DatabaseOfStatements.{database_of}
 use Rattle.gen_unit.specs.Header.{header_text}
 use Rattle.gen_unit.specs.HeaderMeaning.{DeclaresConstants}
 use Rattle.cli_tool.specs.FileName.{database_name, header_path}
-use Rattle.cli_tool.specs.HeaderInFile.{database_in}
+use Rattle.cli_tool.specs.HeaderInFile.{IsIn, twice_named}
 use Rattle.cli_tool.specs.declared.status.Status.{Status}
 use Rattle.cli_tool.specs.declared.status.Status.TheVariants.{Done, FileFault, OutFault}
-
--- the statements that the text is, and the database that they make
-pub record IsDatabaseOf (text : List ℕ) (db : Database) : Type 0 where
-  pub statements : List Statement
-  pub text_is : IsStatementList statements text
-  pub made : db ≡ database_of statements
 
 -- whose it is, its bytes, and what they say as C
 pub record IsHeaderOf (file text header : List ℕ) : Type 0 where
   pub db : Database
-  pub database_is : database_in file text ≡ Ok db
-  pub statements : IsDatabaseOf text db
+  pub database_is : IsIn file text (Ok db)
+  pub named_apart : twice_named [] db.messages ≡ None
   pub bytes : header ≡ header_text (database_name file) db.messages
   pub meaning : DeclaresConstants (database_name file) db.messages header
 

@@ -2,7 +2,7 @@
 use Rattle.std.specs.Prelude.{◌≡◌, ◌⊎◌, ◌+◌, ◌<◌, length}
 use Rattle.cg_out.specs.Outside.{Rose}
 use Rattle.cli_tool.specs.World.{World}
-use Rattle.cli_tool.specs.Task.{Task, Answer, status_of, outputs_of, answer_of}
+use Rattle.cli_tool.specs.Task.{Task, Answer, status_of, outputs_of, Gives}
 use Rattle.cli_tool.specs.Reading.{HasTexts}
 use Rattle.cli_tool.specs.declared.status.Status.{Status}
 use Rattle.cli_tool.specs.declared.status.Status.TheVariants.{FileFault, OutFault, NoMemory}
@@ -18,4 +18,4 @@ IsLeftOpen task answer old new status =
 -- where all texts are told, their answer comes, but for the outside and for memory
 abbrev pub MustCome : Task → World → World → Status → Type 0
 MustCome task old new status =
-    (answer : Answer) → HasTexts old.files task.inputs (λ texts. answer_of task texts ≡ answer) → IsLeftOpen task answer old new status
+    (answer : Answer) → HasTexts old.files task.inputs (λ texts. Gives task texts answer) → IsLeftOpen task answer old new status

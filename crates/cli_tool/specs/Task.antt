@@ -1,5 +1,5 @@
 -- What a command is to the outside: which files it reads, and what their texts give.
-use Rattle.std.specs.Prelude.{ℕ, nat_le, Bool, true, false, ◌&&◌, if◌then◌else◌, List, [], ◌∷◌, length}
+use Rattle.std.specs.Prelude.{◌≡◌, ℕ, nat_le, Bool, true, false, ◌&&◌, List, [], ◌∷◌, length, MatchBool}
 use Rattle.cli_tool.specs.Report.{usage_report, too_large_report}
 use Rattle.cli_tool.specs.declared.status.Status.{Status}
 use Rattle.cli_tool.specs.declared.status.Status.TheVariants.{Done, Negative, Usage, Refused}
@@ -22,14 +22,14 @@ pub data Answer : Type 0 where
   -- the command is done and its answer is yes, or no; these files are written, in order, and this is the report
   outcome : (positive : Bool) (outputs : List Output) (report : List ℕ) → Answer
 
--- what is read, in order, and what texts give that have no more bytes than they may
-pub record Task : Type 0 where
+-- what is read, in order, and which answer texts give that have no more bytes than they may
+pub record Task : Type 1 where
   pub inputs : List Input
-  pub work : List (List ℕ) → Answer
+  pub gives : List (List ℕ) → Answer → Type 0
 
 -- words that are no command: nothing is read
 abbrev pub no_task : Task
-no_task = record { inputs = []; work = λ texts. wrong_words }
+no_task = record { inputs = []; gives = λ texts answer. answer ≡ wrong_words }
 
 -- the status of a run that gave this answer, where nothing failed
 abbrev pub status_of : Answer → Status
@@ -54,6 +54,6 @@ are_within [] texts = true
 are_within (i ∷ is) [] = true
 are_within (i ∷ is) (text ∷ texts) = nat_le (length text) i.limit && are_within is texts
 
--- what the texts of the files give, in the order of the files
-abbrev pub answer_of : Task → List (List ℕ) → Answer
-answer_of task texts = if are_within task.inputs texts then task.work texts else refused too_large_report
+-- the texts of the files, in the order of the files, give this answer
+abbrev pub Gives : Task → List (List ℕ) → Answer → Type 0
+Gives task texts answer = MatchBool (are_within task.inputs texts) (task.gives texts answer) (answer ≡ refused too_large_report)

@@ -2,7 +2,7 @@
 use Rattle.std.specs.Prelude.{◌≡◌, ◌⊎◌, ℕ, ◌+◌, List, length}
 use Rattle.cg_out.specs.Outside.{FilesSeen}
 use Rattle.cli_tool.specs.World.{World, Reports, TearsReport}
-use Rattle.cli_tool.specs.Task.{Task, Answer, status_of, outputs_of, report_of, answer_of}
+use Rattle.cli_tool.specs.Task.{Task, Answer, status_of, outputs_of, report_of, Gives}
 use Rattle.cli_tool.specs.Reading.{OfTexts, AreRead, FailsAtInput, WantsMemory}
 use Rattle.cli_tool.specs.Writing.{WritesFiles, TearsFiles}
 use Rattle.cli_tool.specs.declared.status.Status.{Status}
@@ -12,8 +12,8 @@ use Rattle.cli_tool.specs.declared.status.Status.TheVariants.{FileFault, OutFaul
 pub record Finds (task : Task) (answer : Answer) (old : FilesSeen) : Type 0 where
   pub texts : List (List ℕ)
   pub read : AreRead old task.inputs texts
-  pub given : answer_of task texts ≡ answer
-  pub whole : OfTexts old task.inputs (λ texts. answer_of task texts ≡ answer)
+  pub given : Gives task texts answer
+  pub whole : OfTexts old task.inputs (λ texts. Gives task texts answer)
 
 -- the answer was found and its files stand written, by a call for each file that is read or written
 pub record Leaves (task : Task) (answer : Answer) (old new : FilesSeen) : Type 0 where

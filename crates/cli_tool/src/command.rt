@@ -65,7 +65,7 @@ impl<'a> Command<'a> {
     /// What texts give that have no more bytes than they may.
     pub fn answer(&self, alloc: Global, texts: &[FileText]) -> Result<Answer<'a>, Memory>
         requires { are_within (task_by self.now).inputs texts.now ≡ true }
-        ensures { IfOk result (λ a. answer_in a ≡ (task_by self.now).work texts.now) }
+        ensures { IfOk result (λ a. (task_by self.now).gives texts.now (answer_in a)) }
     {
         match (*self, texts) {
             (Command::GenerateCSource(file), [text]) => generated(alloc, file, text.bytes()),

@@ -1,19 +1,19 @@
 //! The answer of `generate_c_source`.
-ghost use Rattle.std.specs.Prelude.{◌≡◌, map, [], ◌∷◌, Ok, IfOk};
-ghost use Rattle.can_model.specs.Refusal.{Gives};
-ghost use Rattle.name_rules.specs.Distinct.{are_distinct};
+ghost use Rattle.std.specs.Prelude.{◌≡◌, [], Ok, Err, None, IfOk, IsSomeAnd};
+ghost use Rattle.can_model.specs.Validity.{IsValid};
 ghost use Rattle.name_rules.specs.Identifier.{identifier_of};
-ghost use Rattle.cli_tool.specs.HeaderInFile.{header_in};
-ghost use Rattle.cli_tool.specs.GenerateTask.{header_answer, generate_work};
+ghost use Rattle.db_text.specs.DatabaseOfText.{in_text, in_database};
+ghost use Rattle.db_text.specs.Answer.{answer_of};
+ghost use Rattle.cli_tool.specs.HeaderInFile.{twice_named, header_answer, database_answer, HasAnswer};
 ghost use Rattle.cli_tool.specs.Asked.{answer_in};
 
 use crate::answer::{Answer, Output, Why};
 use crate::naming::{header_file, name, names_sym};
-use crate::reporting::{refusal, written};
-use can_model::{Message, TextFault, TextKind};
-use cg_out::Memory;
-use dbc_build::database;
-use dbc_reader::statements;
+use crate::reporting::{database_refusal, refusal, written};
+use can_model::{CheckKind, Database, Message, TextKind};
+use cg_out::{Memory, Text};
+use db_check::Checked;
+use db_text::{DatabaseFault, read_dbc};
 use gen_unit::header;
 use name_rules::identifier;
 use std::alloc::Global;
@@ -21,80 +21,118 @@ use std::collections::BTreeSet;
 
 /// What the text of the file gives: its header is to be written, or it is refused.
 pub fn generated<'a>(alloc: Global, file: &'a [u8], text: &[u8]) -> Result<Answer<'a>, Memory>
-    ensures { IfOk result (λ a. answer_in a ≡ generate_work file.now (text.now ∷ [])) }
+    ensures { IfOk result (λ a. HasAnswer file.now text.now (answer_in a)) }
 {
-    match header_of(alloc, file, text) {
-        Ok(header) => Ok(writes(alloc, file, header)?),
-        Err(TextFault::Fault { kind, line }) => Ok(Answer::Refused(
-            refusal(alloc, kind, line)?,
-            Why {
-                file,
+    if names_sym(file) {
+        return refused_text(alloc, file, TextKind::NotYet, 0);
+    }
+    answered(alloc, file, read_dbc(alloc, text))
+}
+
+/// The answer for what was read.
+fn answered<'a>(
+    alloc: Global,
+    file: &'a [u8],
+    read: Result<Checked, DatabaseFault>,
+) -> Result<Answer<'a>, Memory>
+    ensures { IfOk result (λ a. IsSomeAnd (answer_of read) (λ given. answer_in a ≡ database_answer file.now given)) }
+{
+    match read {
+        Ok(checked) => header_written(alloc, file, checked.database()),
+        Err(DatabaseFault::Text { kind, line }) => refused_text(alloc, file, kind, line),
+        Err(
+            DatabaseFault::Check {
+                kind,
                 line,
-                column: None,
-                message: kind.message(),
+                message,
+                signal,
             },
-        )),
-        Err(TextFault::Memory) => Err(Memory),
+        ) => refused_database(alloc, file, kind, line, &message, &signal),
+        Err(DatabaseFault::Memory) => Err(Memory),
     }
 }
 
-/// The header is to be written, and its name is the report.
-fn writes<'a>(alloc: Global, file: &[u8], header: Vec<u8>) -> Result<Answer<'a>, Memory>
-    ensures { IfOk result (λ a. answer_in a ≡ header_answer file.now (Ok header.items)) }
+/// The refusal of a text.
+fn refused_text<'a>(
+    alloc: Global,
+    file: &'a [u8],
+    kind: TextKind,
+    line: u32,
+) -> Result<Answer<'a>, Memory>
+    ensures { IfOk result (λ a. answer_in a ≡ database_answer file.now (Err (in_text (record { kind = kind; line = line })))) }
 {
-    let report = written(alloc, file)?;
+    let why = Why {
+        file,
+        line,
+        column: None,
+        message: kind.message(),
+    };
+    Ok(Answer::Refused(refusal(alloc, kind, line)?, why))
+}
+
+/// The refusal of a database; a name that does not apply is empty.
+fn refused_database<'a>(
+    alloc: Global,
+    file: &'a [u8],
+    kind: CheckKind,
+    line: u32,
+    message: &Text,
+    signal: &Text,
+) -> Result<Answer<'a>, Memory>
+    ensures { IfOk result (λ a. answer_in a ≡ database_answer file.now
+        (Err (in_database (record { kind = kind; line = line; message = message.now; signal = signal.now })))) }
+{
+    let report = database_refusal(alloc, kind, line, message.bytes(), signal.bytes())?;
+    let why = Why {
+        file,
+        line,
+        column: None,
+        message: kind.message(),
+    };
+    Ok(Answer::Refused(report, why))
+}
+
+/// The header is to be written, unless two messages have one identifier.
+fn header_written<'a>(
+    alloc: Global,
+    file: &'a [u8],
+    database: &Database,
+) -> Result<Answer<'a>, Memory>
+    ensures { IfOk result (λ a. answer_in a ≡ database_answer file.now (Ok database.now)) }
+{
+    match twice_named(alloc, database.messages.items())? {
+        Some(line) => refused_text(alloc, file, TextKind::NotYet, line),
+        None => writes(alloc, file, database.messages.items()),
+    }
+}
+
+/// The header of these messages is to be written, and its name is the report.
+fn writes<'a>(alloc: Global, file: &[u8], messages: &[Message]) -> Result<Answer<'a>, Memory>
+    ensures { IfOk result (λ a. answer_in a ≡ header_answer file.now (record { messages = messages.now }) None) }
+{
+    let name = name(alloc, file)?;
     let output = Output {
         file: header_file(alloc, file)?,
-        bytes: header,
+        bytes: header(alloc, name.bytes(), messages)?,
     };
     let mut outputs = Vec::new(alloc);
     outputs.push(output)?;
-    Ok(Answer::Outcome(true, outputs, report))
+    Ok(Answer::Outcome(true, outputs, written(alloc, file)?))
 }
 
-const NOT_YET: TextFault = TextFault::Fault {
-    kind: TextKind::NotYet,
-    line: 0,
-};
-
-/// The header of the database in the text of a file.
-#[tactic(auto, unfolding(crate::specs::HeaderInFile::database_in))]
-fn header_of(alloc: Global, file: &[u8], text: &[u8]) -> Result<Vec<u8>, TextFault>
-    ensures { Gives (λ v. v.items) result (header_in file.now text.now) }
-{
-    if names_sym(file) {
-        return Err(NOT_YET);
-    }
-    let list = match statements(alloc, text) {
-        Ok(list) => list,
-        Err(TextFault::Memory) => return Err(TextFault::Memory),
-        Err(TextFault::Fault { .. }) => return Err(NOT_YET),
-    };
-    let Ok(db) = database(alloc, &list) else {
-        return Err(TextFault::Memory);
-    };
-    if !have_own_names(alloc, db.messages.items())? {
-        return Err(NOT_YET);
-    }
-    let name = name(alloc, file)?;
-    Ok(header(alloc, name.bytes(), db.messages.items())?)
-}
-
-/// Whether no two of the messages have equal identifiers.
-fn have_own_names(alloc: Global, messages: &[Message]) -> Result<bool, Memory>
-    ensures { IfOk result (λ b. b ≡ are_distinct (map (λ m. identifier_of m.name) messages.now)) }
+/// The line of the first message whose identifier is that of an earlier one.
+fn twice_named(alloc: Global, messages: &[Message]) -> Result<Option<u32>, Memory>
+    ensures { IfOk result (λ line. line ≡ twice_named [] messages.now) }
 {
     let mut seen = BTreeSet::new(alloc);
-    let mut at = messages.len();
-    while at > 0 {
-        at -= 1;
-        let key = identifier_bytes(alloc, &messages[at])?;
+    for message in messages {
+        let key = identifier_bytes(alloc, message)?;
         let is_new = seen.insert(key)?;
         if !is_new {
-            return Ok(false);
+            return Ok(Some(message.line));
         }
     }
-    Ok(true)
+    Ok(None)
 }
 
 /// The identifier of a message's name.

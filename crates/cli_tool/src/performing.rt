@@ -1,7 +1,7 @@
 //! A command, from its first read to its report.
-ghost use Rattle.std.specs.Prelude.{◌≡◌, ◌≤◌, IfOk};
+ghost use Rattle.std.specs.Prelude.{◌≤◌, IfOk};
 ghost use Rattle.cli_tool.specs.World.{world, KeepsCounts};
-ghost use Rattle.cli_tool.specs.Task.{answer_of, status_of, report_of};
+ghost use Rattle.cli_tool.specs.Task.{Gives, status_of, report_of};
 ghost use Rattle.cli_tool.specs.Telling.{Tells, Delivers};
 ghost use Rattle.cli_tool.specs.TaskEnds.{TaskEnds};
 ghost use Rattle.cli_tool.specs.Asked.{task_by, answer_in};
@@ -44,7 +44,7 @@ fn answered<'a>(
     command: &Command<'a>,
     texts: &[FileText],
 ) -> Result<Answer<'a>, Memory>
-    ensures { IfOk result (λ a. answer_in a ≡ answer_of (task_by command.now) texts.now) }
+    ensures { IfOk result (λ a. Gives (task_by command.now) texts.now (answer_in a)) }
 {
     match too_long(command, texts) {
         None => command.answer(alloc, texts),

@@ -1,10 +1,10 @@
 //! What a run writes to its sink.
-ghost use Rattle.std.specs.Prelude.{◌≡◌, IfOk};
-ghost use Rattle.cli_tool.specs.Report.{usage_report, written_report, fine_report, text_named, refused_report, refusal_report, c_refusal_report};
+ghost use Rattle.std.specs.Prelude.{◌≡◌, ◌++◌, map, IfOk, OnOk};
+ghost use Rattle.cli_tool.specs.Report.{usage_report, written_report, fine_report, text_named, refused_report, refusal_report, shown_byte, marked, fault_report, c_refusal_report};
 
 use crate::naming::header_file;
 use c_mean::{CKind, Place};
-use can_model::TextKind;
+use can_model::{CheckKind, TextKind};
 use cg_out::Memory;
 use itoa::Buffer;
 use std::alloc::{AllocError, Global};
@@ -51,8 +51,9 @@ fn refused(
     name: &str,
     text: &str,
     line: u32,
+    names: &[u8],
 ) -> Result<Vec<u8>, AllocError>
-    ensures { IfOk result (λ v. v.items ≡ refused_report number name.now text.now line) }
+    ensures { IfOk result (λ v. v.items ≡ refused_report number name.now text.now line names.now) }
 {
     let mut report = Vec::from_slice(alloc, b"refused ")?;
     report.extend_from_slice(Buffer::new().format(number).as_bytes())?;
@@ -61,6 +62,7 @@ fn refused(
     report.extend_from_slice(text.as_bytes())?;
     report.extend_from_slice(b" line ")?;
     report.extend_from_slice(Buffer::new().format(line).as_bytes())?;
+    report.extend_from_slice(names)?;
     report.push(b'\n')?;
     Ok(report)
 }
@@ -69,7 +71,47 @@ fn refused(
 pub fn refusal(alloc: Global, kind: TextKind, line: u32) -> Result<Vec<u8>, Memory>
     ensures { IfOk result (λ v. v.items ≡ refusal_report (record { kind = kind; line = line })) }
 {
-    Ok(refused(alloc, kind.number(), kind.name(), "", line)?)
+    Ok(refused(alloc, kind.number(), kind.name(), "", line, b"")?)
+}
+
+fn shown(b: u8) -> u8
+    ensures { result ≡ shown_byte b }
+{
+    if b < 33 || b > 126 { b'.' } else { b }
+}
+
+fn shown_name(alloc: Global, name: &[u8]) -> Result<Vec<u8>, AllocError>
+    ensures { IfOk result (λ v. v.items ≡ map shown_byte name.now) }
+{
+    name.iter().map(|b| shown(*b)).collect(alloc)
+}
+
+/// Appends a mark and a name, where there is one.
+fn put_marked(alloc: Global, names: &mut Vec<u8>, mark: u8, name: &[u8]) -> Result<(), AllocError>
+    ensures { OnOk result (names.new.items ≡ names.old.items ++ marked mark name.now) }
+{
+    if name.is_empty() {
+        return Ok(());
+    }
+    let shown = shown_name(alloc, name)?;
+    names.push(mark)?;
+    names.extend_from_slice(&shown)
+}
+
+/// The report of a database that is refused; a name that does not apply is empty.
+pub fn database_refusal(
+    alloc: Global,
+    kind: CheckKind,
+    line: u32,
+    message: &[u8],
+    signal: &[u8],
+) -> Result<Vec<u8>, Memory>
+    ensures { IfOk result (λ v. v.items ≡ fault_report (record { kind = kind; line = line; message = message.now; signal = signal.now })) }
+{
+    let mut names = Vec::new(alloc);
+    put_marked(alloc, &mut names, b' ', message)?;
+    put_marked(alloc, &mut names, b'.', signal)?;
+    Ok(refused(alloc, kind.number(), kind.name(), "", line, &names)?)
 }
 
 /// The report of one of two C texts that is refused.
@@ -77,5 +119,5 @@ pub fn c_refusal(alloc: Global, kind: CKind, place: Place) -> Result<Vec<u8>, Me
     ensures { IfOk result (λ v. v.items ≡ c_refusal_report (record { kind = kind; place = place })) }
 {
     let text = text_named(place);
-    Ok(refused(alloc, kind.number(), kind.name(), text, place.line)?)
+    Ok(refused(alloc, kind.number(), kind.name(), text, place.line, b"")?)
 }

@@ -33,7 +33,7 @@ const CALLS: &[u8] =
     b"static int twice(int a) { return a + a; }\nint f(int a) { return twice(1 + twice(a)); }\nvoid nothing(void) { ; }\nint g(void) { nothing(); return twice(\n2147483647); }";
 
 const LAZY: &[u8] =
-    b"int f(int a) { return a != 0 && 1 << a; }\nint g(int a) { return a != 0 || 1 << (a - 1); }";
+    b"int f(int a) { return a != 0 && 1 << (a - 1); }\nint g(int a) { return a != 0 || 1 << (a - 1); }";
 
 const LOCALS: &[u8] =
     b"int f(int a) { int b = a; { int a = b + 1; b = a; a = 50; } return a + b; }\nint g(void) { int x = x; return x; }";
@@ -107,8 +107,14 @@ const RETURNED: &[(&[u8], &[u8], &str, &[u8])] = &[
     (b"", CALLS, "lp64 twice int:-0021", b"return -42\n"),
     (b"", CALLS, "lp64 nothing", b"return\n"),
     (b"", LAZY, "lp64 f int:0", b"return 0\n"),
-    (b"", LAZY, "lp64 f int:30", b"return 1\n"),
+    (b"", LAZY, "lp64 f int:31", b"return 1\n"),
     (b"", LAZY, "lp64 g int:-1", b"return 1\n"),
+    (
+        b"",
+        b"unsigned f(unsigned a) { return a + 1u; }",
+        "lp64 f int:4294967295",
+        b"return 0\n",
+    ),
     (b"", LOCALS, "lp64 f int:3", b"return 7\n"),
     (b"", SIGNS, "lp64 g int:5", b"return -6\n"),
     (b"", SIGNS, "lp64 h int:-4", b"return -4\n"),
@@ -303,7 +309,7 @@ const UNDEFINED: &[(&[u8], &[u8], &str, &[u8])] = &[
     (
         b"",
         LAZY,
-        "lp64 f int:32",
+        "lp64 f int:33",
         b"undefined ShiftCount source line 1\n",
     ),
     (

@@ -43,8 +43,20 @@ const NOTES: &[(&str, &[u8], &[u8], &str)] = &[
     (
         "generate_c_source t.c",
         b"",
-        b"CM_ \"a\";",
-        "t.c:0:0: this form is not read yet",
+        b"BO_ 1 A: 8 X\nSG_ S M :",
+        "t.c:2:0: this form is not read yet",
+    ),
+    (
+        "generate_c_source t.c",
+        b"",
+        b"BO_ 1 A:\n",
+        "t.c:2:0: no statement that may stand here goes on like this",
+    ),
+    (
+        "generate_c_source t.c",
+        b"",
+        b"\nBO_ 1 A: 2049 X",
+        "t.c:2:0: a message has at most 2048 bytes",
     ),
     (
         "exec in/h.h t.c lp64 g",

@@ -41,6 +41,16 @@ pub(super) fn plain<'a>(
 
 /// Runs the row and compares.
 pub(super) fn check(rt: &impl Abort, alloc: Global, row: &Row<'_>) -> Result<(), Fail> {
+    check_about(rt, alloc, row, row.words)
+}
+
+/// The same, where the text `about` tells what is run.
+pub(super) fn check_about(
+    rt: &impl Abort,
+    alloc: Global,
+    row: &Row<'_>,
+    about: &str,
+) -> Result<(), Fail> {
     let mut entries = Vec::new(alloc);
     for (name, bytes) in row.files {
         entries.push(Entry {
@@ -54,7 +64,6 @@ pub(super) fn check(rt: &impl Abort, alloc: Global, row: &Row<'_>) -> Result<(),
     }
     let mut files = MemoryFiles::new(alloc, &entries, 4096, row.failing)?;
     let mut out = MemorySink::new(alloc, 100, row.sink_failing)?;
-    let about = row.words;
     assert_eq!(rt;
         run(alloc, &words, &mut files, &mut out),
         row.status,

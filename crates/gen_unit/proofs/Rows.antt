@@ -8,10 +8,10 @@ use Rattle.gen_unit.specs.Header.{about}
 use Rattle.gen_unit.specs.HeaderMeaning.{number, in_brackets, macros_of}
 
 abbrev ping : Message
-ping = record { id = 291; extended = false; name = codes "Ping"; length = 2; cycle = None; comment = []; line = 3 }
+ping = record { id = 291; extended = false; name = codes "Ping"; length = 2; cycle = None; comment = []; signals = []; line = 3 }
 
 abbrev pong : Message
-pong = record { id = 1; extended = true; name = codes "Pong"; length = 0; cycle = None; comment = codes "back"; line = 4 }
+pong = record { id = 1; extended = true; name = codes "Pong"; length = 0; cycle = None; comment = codes "back"; signals = []; line = 4 }
 
 two_messages : macros_of (codes "can") (ping ∷ pong ∷ []) ≡
     (codes "CAN_H", [])

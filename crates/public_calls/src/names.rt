@@ -1,6 +1,6 @@
 //! `name_rules` and `gen_unit`: the identifier of a name, and what a header says of a message.
 use can_model::Message;
-use cg_out::{Memory, Text};
+use cg_out::{List, Memory, Text};
 use gen_unit::header;
 use name_rules::identifier;
 
@@ -38,6 +38,7 @@ fn a_message_has_three_macros(rt: HostRuntime) -> Result<(), Memory> {
         length: 64,
         cycle: None,
         comment: Text::copy_of(alloc, b"says */")?,
+        signals: List::new(alloc),
         line: 1,
     }];
     let text = header(alloc, b"x", &messages)?;

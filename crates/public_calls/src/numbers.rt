@@ -56,6 +56,11 @@ fn texts_are_numbers(rt: HostRuntime) -> Result<(), Fail> {
         assert_eq!(rt; Decimal::read(text), Err(NumberFault));
     }
     assert_eq!(rt; Decimal::read(b"-2.50e1")?.negated().whole(), Some(25));
+    assert_eq!(rt;
+        Decimal::read(b"1.50")?.negated(),
+        Decimal::read(b"-15e-1")?
+    );
+    assert_eq!(rt; Decimal::read(b"-0")?.negated(), Decimal::read(b"0")?);
     assert_eq!(rt; Decimal::read(b"18446744073709551617")?.whole(), None);
     Ok(())
 }

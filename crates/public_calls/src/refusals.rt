@@ -1,6 +1,6 @@
 //! `can_model` and `c_mean`: numbers and names of refusals, and the words and marks of C.
 use c_mean::{CKind, Keyword, Punctuator};
-use can_model::TextKind;
+use can_model::{CheckKind, TextKind};
 
 const TEXT_KINDS: &[(TextKind, u8, &str)] = &[
     (TextKind::BadByte, 1, "BadByte"),
@@ -15,8 +15,30 @@ const TEXT_KINDS: &[(TextKind, u8, &str)] = &[
     (TextKind::NotYet, 25, "NotYet"),
 ];
 
+const CHECK_KINDS: &[(CheckKind, u8, &str)] = &[
+    (CheckKind::DuplicateMessageName, 10, "DuplicateMessageName"),
+    (CheckKind::DuplicateMessageId, 11, "DuplicateMessageId"),
+    (CheckKind::DuplicateSignalName, 12, "DuplicateSignalName"),
+    (CheckKind::FrameIdRange, 13, "FrameIdRange"),
+    (CheckKind::MessageTooLong, 14, "MessageTooLong"),
+    (CheckKind::SignalLength, 15, "SignalLength"),
+    (CheckKind::SignalOutside, 16, "SignalOutside"),
+    (CheckKind::Overlap, 17, "Overlap"),
+    (CheckKind::MuxParentUnknown, 18, "MuxParentUnknown"),
+    (CheckKind::MuxIdRange, 19, "MuxIdRange"),
+    (CheckKind::FloatSignal, 20, "FloatSignal"),
+    (CheckKind::ScaleTooWide, 21, "ScaleTooWide"),
+    (CheckKind::TooMany, 22, "TooMany"),
+    (CheckKind::ExtendedMultiplexing, 23, "ExtendedMultiplexing"),
+    (CheckKind::MuxCycle, 24, "MuxCycle"),
+];
+
 #[test]
 fn kinds_of_a_database(rt: HostRuntime) {
+    for &(kind, number, name) in CHECK_KINDS {
+        assert_eq!(rt; kind.number(), number, "of {name}");
+        assert_eq!(rt; kind.name(), name);
+    }
     for &(kind, number, name) in TEXT_KINDS {
         assert_eq!(rt; kind.number(), number, "of {name}");
         assert_eq!(rt; kind.name(), name);
@@ -63,6 +85,8 @@ fn kinds_of_trees(rt: HostRuntime) {
     }
     let told = TextKind::BadNumber.message();
     assert_eq!(rt; told, "this number does not fit here");
+    let told = CheckKind::Overlap.message();
+    assert_eq!(rt; told, "this signal shares a place with an earlier one");
     let told = CKind::Syntax.message();
     assert_eq!(rt; told, "no form of C that is read fits here");
 }

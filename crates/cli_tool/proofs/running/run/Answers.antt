@@ -7,6 +7,7 @@ use Rattle.cli_tool.specs.TaskEnds.{TaskEnds}
 use Rattle.cli_tool.specs.Ends.{task_found, task_asked, HeaderOfCommand}
 use Rattle.cli_tool.specs.declared.status.Status.{Status}
 use Rattle.cli_tool.proofs.Comes.{comes}
+use Rattle.cli_tool.proofs.Decided.{decided}
 use Rattle.cli_tool.proofs.Headers.{header_stands}
 use Rattle.cli_tool.proofs.running.run.Goals as goal
 
@@ -14,7 +15,7 @@ pub returns-clause-comes : goal.returns-clause-comes
 returns-clause-comes g c =
     let old : World = world (g.F.Files.seen c.args.files.now) (g.O.Sink.seen c.args.out.now) in
     let new : World = world (g.F.Files.seen c.run_command.new.files) (g.O.Sink.seen c.run_command.new.out) in
-    comes (task_asked c.args.words.now) old new c.run_command.result c.run_command.ensures.ends
+    comes (task_asked c.args.words.now) (decided (command_of c.args.words.now)) old new c.run_command.result c.run_command.ensures.ends
 
 by_command : (command : Option Command) (old new : World) (status : Status) → TaskEnds (task_found command) old new status → HeaderOfCommand command old new status
 by_command None old new status e = tt
