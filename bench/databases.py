@@ -1,0 +1,84 @@
+#!/usr/bin/env python3
+"""Times `cantoolc generate_c_source` on whole DBC databases, from 1,024 to 32,768 signals.
+
+Prints the bytes of each text, the seconds, the peak memory and how many times the text that is, and how fast the time
+grows (an exponent of 1 is linear): with few and with many signals a message, with a comment, an attribute and choices
+for each signal, with names that are long and alike, and with many statements that speak of one signal. Beside it,
+where python3-canmatrix is there, the time in which that loads the same file. Build the program first (./run).
+"""
+import importlib.util
+import os
+import sys
+import tempfile
+
+from measuring import exponent, measure
+
+TOP = os.path.dirname(os.path.dirname(os.path.abspath(__file__)))
+PROGRAM = os.path.join(TOP, "crates", "cantoolc", "out", "cantoolc")
+RUNS = 3
+LOAD = "import sys, canmatrix.formats as f; f.loadp_flat(sys.argv[1])"
+
+
+def names(count, alike):
+    """Names of signals, short or of 60 bytes that differ at their end alone."""
+    return [f"{'A' * 52}{i:08d}" if alike else f"Signal{i}" for i in range(count)]
+
+
+def database(count, a_message, rich=False, alike=False):
+    """The lines of a text of so many signals of 4 bits, so many a message, each with what is said of it if asked."""
+    yield 'VERSION ""'
+    yield "BU_: X Y"
+    all_names = names(count, alike)
+    for first in range(0, count, a_message):
+        of_message = all_names[first : first + a_message]
+        yield f"BO_ {2147483648 + first // a_message} Message{first // a_message}: {(len(of_message) + 1) // 2} X"
+        for i, name in enumerate(of_message):
+            yield f' SG_ {name} : {4 * i}|4@1+ (0.5,-10) [-10|-2.5] "km/h" Y'
+    for i, name in enumerate(all_names if rich else []):
+        key = f"{2147483648 + i // a_message} {name}"
+        yield f'CM_ SG_ {key} "what the signal means";'
+        yield f'BA_ "GenSigStartValue" SG_ {key} {i % 16};'
+        yield f'VAL_ {key} 0 "Off" 1 "On" 2 "Fault" 3 "Unknown" ;'
+
+
+def of_one_signal(count):
+    """The lines of a text of so many comments on one signal."""
+    yield "BO_ 1 A: 8 X"
+    yield ' SG_ S : 0|8@1+ (1,0) [0|0] "" X'
+    for _ in range(count):
+        yield 'CM_ SG_ 1 S "a";'
+
+
+SHAPES = {
+    "8 signals a message": ((1024, 32768), lambda n: database(n, 8)),
+    "4,096 signals a message": ((4096, 32768), lambda n: database(n, 4096)),
+    "with comments, start values and choices": ((1024, 32768), lambda n: database(n, 8, rich=True)),
+    "names that are long and alike": ((1024, 32768), lambda n: database(n, 8, alike=True)),
+    "statements of one signal": ((12500, 400000), of_one_signal),
+}
+
+
+def row(folder, name, lines):
+    path = os.path.join(folder, "bench.dbc")
+    with open(path, "w", encoding="ascii") as f:
+        f.writelines(line + "\n" for line in lines)
+    size = os.path.getsize(path)
+    run = measure([PROGRAM, "generate_c_source", path], folder, RUNS)
+    beside = ""
+    if importlib.util.find_spec("canmatrix"):
+        beside = f"{measure([sys.executable, '-c', LOAD, path], folder, 1).used:.2f}"
+    print(f"{size:>10} {run.used:>9.4f} {run.peak / 1e6:>9.1f} {run.peak / size:>7.1f} {beside:>10}   {name}")
+    return size, run.used
+
+
+def main():
+    if not os.path.exists(PROGRAM):
+        sys.exit("build the program first: ./run generate_c_source examples/can.dbc")
+    print(f"{'bytes':>10} {'seconds':>9} {'peak MB':>9} {'times':>7} {'canmatrix':>10}")
+    for name, (counts, text) in SHAPES.items():
+        with tempfile.TemporaryDirectory() as folder:
+            (small, quick), (large, slow) = [row(folder, name, text(n)) for n in counts]
+        print(f"exponent of time: {exponent(small, quick, large, slow):.2f}")
+
+
+main()
