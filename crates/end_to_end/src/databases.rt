@@ -615,7 +615,7 @@ fn a_file_has_a_limited_count_of_messages_and_signals(rt: HostRuntime) -> Result
 }
 
 /// Checks a statement that is cut behind `before`, and with each trial in the place of the token
-/// that begins this line.
+/// that begins this line, with more tokens behind it.
 fn check_place(
     rt: &impl Abort,
     alloc: Global,
@@ -651,17 +651,14 @@ fn statements_are_cut_and_damaged(rt: HostRuntime) -> Result<(), Fail> {
     let alloc = rt.alloc();
     for &row in STATEMENTS {
         let (statement, places) = row.split_once('\n').unwrap_or((row, ""));
+        let tokens = statement.split_ascii_whitespace();
         let mut before = String::from_str(alloc, "BO_ 1 A: 8 X\n")?;
-        let mut left = statement;
         let mut line = 2u32;
-        for may in places.split_ascii_whitespace() {
-            let (token, behind) = left.split_once(' ').unwrap_or((left, ""));
-            check_place(&rt, alloc, &before, line, may.as_bytes(), behind)?;
+        for (token, may) in tokens.zip(places.split_ascii_whitespace()) {
+            check_place(&rt, alloc, &before, line, may.as_bytes(), statement)?;
             write!(before, "{token}\n")?;
-            left = behind.trim_start();
             line = line.saturating_add(1);
         }
-        assert_eq!(rt; left, "", "of {statement}");
         check_text(&rt, alloc, &before, "a.h")?;
     }
     Ok(())
