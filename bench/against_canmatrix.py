@@ -8,18 +8,16 @@ is there, what that reads of the same files. Prints how many agree, and ends wit
     against_canmatrix.py [SEED]
 """
 import importlib.util
-import os
 import random
-import shutil
-import subprocess
 import sys
 import tempfile
 from decimal import Decimal
 
-TOP = os.path.dirname(os.path.dirname(os.path.abspath(__file__)))
+from program import try_program
+
 CRATES = ["limit_fraction", "cg_out", "name_table", "can_model", "dbc_reader", "dbc_build", "db_check", "db_text"]
 FILES = 40
-PROGRAM = r"""//! What is read of texts.
+SOURCE = r"""//! What is read of texts.
 #![tactic(auto)]
 
 use cg_out::Text;
@@ -146,21 +144,7 @@ def file(rng):
 def read(texts):
     """What the scratch program prints of these texts, as databases."""
     quoted = ", ".join('"' + t.replace("\\", "\\\\").replace('"', '\\"').replace("\n", "\\n").replace("\t", "\\t") + '"' for t in texts)
-    with tempfile.TemporaryDirectory() as folder:
-        for crate in CRATES:
-            for part in ("src", "specs", "proofs"):
-                path = os.path.join(TOP, "crates", crate, part)
-                if os.path.isdir(path):
-                    shutil.copytree(path, os.path.join(folder, "crates", crate, part))
-        with open(os.path.join(TOP, "crates.txt"), encoding="utf-8") as f:
-            lines = [line for line in f if line.split(":")[0] in CRATES]
-        with open(os.path.join(folder, "crates.txt"), "w", encoding="utf-8") as f:
-            f.write("".join(lines) + "database_shown: db_text db_check can_model cg_out limit_fraction\n")
-        source = os.path.join(folder, "crates", "database_shown", "src")
-        os.makedirs(source)
-        with open(os.path.join(source, "main.rt"), "w", encoding="utf-8") as f:
-            f.write(PROGRAM.replace("@", quoted))
-        run = subprocess.run(["rt", "try"], cwd=os.path.dirname(source), capture_output=True, text=True, check=False)
+    run = try_program("database_shown", CRATES, "db_text db_check can_model cg_out limit_fraction", SOURCE.replace("@", quoted))
     databases = []
     for line in run.stdout.splitlines():
         kind, *parts = line.split("|")

@@ -17,8 +17,8 @@ import subprocess
 import sys
 import tempfile
 
-TOP = os.path.dirname(os.path.dirname(os.path.abspath(__file__)))
-PROGRAM = os.path.join(TOP, "crates", "cantoolc", "out", "cantoolc")
+from program import PROGRAM
+
 FRONT = """#include <stdbool.h>
 #include <stddef.h>
 #include <stdint.h>

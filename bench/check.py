@@ -16,9 +16,8 @@ import tempfile
 
 from generated import pack, signals, write_source
 from measuring import measure, print_exponent
+from program import PROGRAM, want_program
 
-TOP = os.path.dirname(os.path.dirname(os.path.abspath(__file__)))
-PROGRAM = os.path.join(TOP, "crates", "cantoolc", "out", "cantoolc")
 RUNS = 3
 INCLUDES = ["#include <stddef.h>", "#include <stdint.h>", "#include <string.h>", ""]
 HELPERS = [
@@ -121,8 +120,7 @@ def shape(name):
 
 
 def main():
-    if not os.path.exists(PROGRAM):
-        sys.exit("build the program first: ./run generate_c_source examples/can.dbc")
+    want_program()
     print(f"{'bytes':>10} {'check s':>10} {'check MB':>10} {'gcc s':>10} {'gcc MB':>10}")
     larger = int(sys.argv[1]) if len(sys.argv) > 1 else 8_000_000
     for pairs in (whole_pairs(larger), damaged_pairs(), *map(shape, SHAPES)):

@@ -11,10 +11,9 @@ import os
 import sys
 import tempfile
 
-from measuring import exponent, measure
+from measuring import measure, print_exponent
+from program import PROGRAM, want_program
 
-TOP = os.path.dirname(os.path.dirname(os.path.abspath(__file__)))
-PROGRAM = os.path.join(TOP, "crates", "cantoolc", "out", "cantoolc")
 RUNS = 3
 LOAD = "import sys, canmatrix.formats as f; f.loadp_flat(sys.argv[1])"
 
@@ -72,13 +71,11 @@ def row(folder, name, lines):
 
 
 def main():
-    if not os.path.exists(PROGRAM):
-        sys.exit("build the program first: ./run generate_c_source examples/can.dbc")
+    want_program()
     print(f"{'bytes':>10} {'seconds':>9} {'peak MB':>9} {'times':>7} {'canmatrix':>10}")
     for name, (counts, text) in SHAPES.items():
         with tempfile.TemporaryDirectory() as folder:
-            (small, quick), (large, slow) = [row(folder, name, text(n)) for n in counts]
-        print(f"exponent of time: {exponent(small, quick, large, slow):.2f}")
+            print_exponent(row(folder, name, text(n)) for n in counts)
 
 
 main()

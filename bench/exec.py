@@ -11,9 +11,10 @@ import os
 import sys
 import tempfile
 
-from check import PROGRAM, RUNS, write_pair
+from check import RUNS, write_pair
 from generated import write_source
 from measuring import measure, print_exponent
+from program import PROGRAM, want_program
 
 CALL = ["lp64", "vehicle_message_0_pack", "raw:16", "struct:engine_speed=258,oil_temperature=3", "int:16"]
 SHAPES = {
@@ -56,8 +57,7 @@ def shape(name):
 
 
 def main():
-    if not os.path.exists(PROGRAM):
-        sys.exit("build the program first: ./run generate_c_source examples/can.dbc")
+    want_program()
     print(f"{'bytes':>10} {'exec s':>10} {'exec MB':>10} {'check s':>10} {'check MB':>10} {'ratio':>8}")
     larger = int(sys.argv[1]) if len(sys.argv) > 1 else 8_000_000
     for timings in (pairs(larger), *map(shape, SHAPES)):

@@ -21,7 +21,8 @@ import subprocess
 import sys
 import tempfile
 
-from against_gcc import FRONT, PROGRAM, statements
+from against_gcc import FRONT, statements
+from program import PROGRAM
 
 HEAD = "int f{}(int v, unsigned w, struct s *p, uint8_t *q) {{"
 BATCH = 25

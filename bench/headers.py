@@ -5,13 +5,11 @@ Prints the time and the peak memory of each, and how fast they grow with the tex
 is linear. Build the program first (./run).
 """
 import os
-import sys
 import tempfile
 
 from measuring import exponent, measure
+from program import PROGRAM, want_program
 
-TOP = os.path.dirname(os.path.dirname(os.path.abspath(__file__)))
-PROGRAM = os.path.join(TOP, "crates", "cantoolc", "out", "cantoolc")
 RUNS = 5
 
 
@@ -31,8 +29,7 @@ def row(folder, messages):
 
 
 def main():
-    if not os.path.exists(PROGRAM):
-        sys.exit("build the program first: ./run generate_c_source examples/can.dbc")
+    want_program()
     with tempfile.TemporaryDirectory() as folder:
         rows = [row(folder, n) for n in (1024, 16384)]
     print(f"{'bytes of text':>14} {'seconds':>10} {'peak KiB':>10}")

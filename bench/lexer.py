@@ -9,21 +9,20 @@ linear. `expand` cuts the text first, and takes it as a source with an empty hea
 `--keep FOLDER` that folder is made or used again, and left.
 """
 import os
-import shutil
 import subprocess
 import sys
 import tempfile
 
 from generated import pack, signals
 from measuring import exponent, measure
+from program import lay_out
 
-TOP = os.path.dirname(os.path.dirname(os.path.abspath(__file__)))
 CRATES = ["cg_out", "c_text", "c_lexer", "c_pre"]
 NAME = "lexer_bench"
 COLUMNS = ["call", "bytes", "tokens", "left", "macros", "seconds", "processor", "MB/s", "ns/byte", "peak MB", "B/token"]
 LIMIT = 67_108_864
 RUNS = 3
-PROGRAM = r"""//! Reads the file of its second word; by its first, `tokens` cuts it and `expand` preprocesses it as
+SOURCE = r"""//! Reads the file of its second word; by its first, `tokens` cuts it and `expand` preprocesses it as
 //! a source besides. Prints how many bytes, tokens, tokens that are left and macros there are.
 #![tactic(auto)]
 
@@ -152,22 +151,10 @@ def write_text(path, limit):
 
 def build(folder):
     """The program over copies of the crates."""
-    for crate in CRATES:
-        for part in ("src", "specs", "proofs"):
-            to = os.path.join(folder, "crates", crate, part)
-            shutil.rmtree(to, ignore_errors=True)
-            shutil.copytree(os.path.join(TOP, "crates", crate, part), to)
-    with open(os.path.join(TOP, "crates.txt"), encoding="ascii") as f:
-        lines = [line for line in f if line.split(":")[0] in CRATES]
-    with open(os.path.join(folder, "crates.txt"), "w", encoding="ascii") as f:
-        f.writelines(lines + [f"{NAME}: c_pre c_lexer c_text cg_out\n"])
-    crate = os.path.join(folder, "crates", NAME)
-    for part in ("src", "specs", "proofs"):
-        os.makedirs(os.path.join(crate, part), exist_ok=True)
+    crate = lay_out(folder, NAME, CRATES, "c_pre c_lexer c_text cg_out", SOURCE)
     for part in ("specs", "proofs"):
+        os.makedirs(os.path.join(crate, part), exist_ok=True)
         open(os.path.join(crate, part, "Lib.antt"), "a", encoding="ascii").close()
-    with open(os.path.join(crate, "src", "main.rt"), "w", encoding="ascii") as f:
-        f.write(PROGRAM)
     log = os.path.join(folder, "log")
     with open(log, "w", encoding="utf-8") as f:
         subprocess.run(["rt", "run"], cwd=crate, stdin=subprocess.DEVNULL, stdout=f, stderr=f, check=False)

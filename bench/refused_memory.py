@@ -13,8 +13,8 @@ import sys
 import tempfile
 from typing import NamedTuple
 
-TOP = os.path.dirname(os.path.dirname(os.path.abspath(__file__)))
-PROGRAM = os.path.join(TOP, "crates", "cantoolc", "out", "cantoolc")
+from program import PROGRAM, TOP, want_program
+
 SHIM = r"""
 #define _GNU_SOURCE
 #include <dlfcn.h>
@@ -148,8 +148,7 @@ def main():
     if shutil.which("gcc") is None:
         print("skipped: there is no gcc")
         return
-    if not os.path.exists(PROGRAM):
-        sys.exit("build the program first: ./run generate_c_source examples/can.dbc")
+    want_program()
     with tempfile.TemporaryDirectory() as folder:
         source, shim = os.path.join(folder, "shim.c"), os.path.join(folder, "shim.so")
         with open(source, "w", encoding="ascii") as f:

@@ -8,14 +8,13 @@ Prints how many agree, and ends with 1 where one does not. It wants gcc and rt.
 
     types_against_gcc.py
 """
-import os
 import re
 import shutil
 import subprocess
 import sys
-import tempfile
 
-TOP = os.path.dirname(os.path.dirname(os.path.abspath(__file__)))
+from program import try_program
+
 CRATES = ["cg_out", "c_text", "c_tree", "c_mean", "c_widths"]
 KINDS = {
     "Bool": "_Bool",
@@ -88,21 +87,7 @@ fn main(rt: HostRuntime) -> io::Result<()> {{
 
 def computed():
     """What the program prints: for each model the promoted types, the common types and those of constants."""
-    with tempfile.TemporaryDirectory() as folder:
-        for crate in CRATES:
-            for part in ("src", "specs", "proofs"):
-                path = os.path.join(TOP, "crates", crate, part)
-                if os.path.isdir(path):
-                    shutil.copytree(path, os.path.join(folder, "crates", crate, part))
-        with open(os.path.join(TOP, "crates.txt"), encoding="utf-8") as f:
-            lines = [line for line in f if line.split(":")[0] in CRATES]
-        with open(os.path.join(folder, "crates.txt"), "w", encoding="utf-8") as f:
-            f.write("".join(lines) + "types_table: c_widths c_mean c_text\n")
-        source = os.path.join(folder, "crates", "types_table", "src")
-        os.makedirs(source)
-        with open(os.path.join(source, "main.rt"), "w", encoding="utf-8") as f:
-            f.write(program())
-        run = subprocess.run(["rt", "try"], cwd=os.path.dirname(source), capture_output=True, text=True, check=False)
+    run = try_program("types_table", CRATES, "c_widths c_mean c_text", program())
     found = [line for line in run.stdout.splitlines() if line in KINDS or line == "None"]
     each = len(KINDS) + len(KINDS) ** 2 + len(CONSTANTS)
     if len(found) != each * len(MODELS):
