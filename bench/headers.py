@@ -16,7 +16,7 @@ RUNS = 5
 def database(messages):
     lines = ['VERSION ""', "BU_: X"]
     for i in range(messages):
-        lines.append(f"BO_ {i | (i % 2) << 31} MessageNumber{i}: {i % 9} X")
+        lines.append(f"BO_ {i | 1 << 31} MessageNumber{i}: {i % 9} X")
     return "\n".join(lines) + "\n"
 
 
