@@ -1,8 +1,7 @@
 -- The template of a text: it is regular and can be brought to its end; what is read of it is a list of statements.
 use Rattle.std.proofs.Common.{◌≡◌, ◌⊎◌, inl, inr, ℕ, List, [], ◌∷◌, ◌++◌, map, Ok, refl, sym, ap, subst}
 use Rattle.std.specs.List.{AllByRecursion}
-use Rattle.dbc_reader.specs.declared.token.Token.TheVariants.{Mark}
-use Rattle.dbc_reader.specs.declared.token.Lexed.{Lexed}
+use Rattle.dbc_reader.specs.Token.{Mark, Lexed}
 use Rattle.dbc_reader.specs.declared.statement.Statement.{Statement}
 use Rattle.dbc_reader.specs.Keywords.{keyword}
 use Rattle.dbc_reader.specs.MuxWord.{is_mux}

@@ -3,7 +3,7 @@ use Rattle.std.proofs.Common.{◌≡◌, ◌⊎◌, inl, inr, ℕ, zero, suc, �
 use Rattle.cg_out.specs.Words.{◌>>=◌}
 use Rattle.can_model.specs.Refusal.{Refusal}
 use Rattle.can_model.specs.declared.refusal.TextKind.{TextKind}
-use Rattle.dbc_reader.specs.declared.token.Lexed.{Lexed}
+use Rattle.dbc_reader.specs.Token.{Lexed}
 use Rattle.dbc_reader.specs.Template.{Test, Template, done, take, both, choose, repeat, skip, stop, Given, Kept, given, passes}
 use Rattle.dbc_reader.specs.Reading.{fault_at, with_rest, one_at, past, unless_at, repeat_at, template_at}
 use Rattle.dbc_reader.specs.Statements.{EndsRun, Passes, Passing, Rounds, Fits}

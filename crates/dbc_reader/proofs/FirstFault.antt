@@ -5,9 +5,7 @@ use Rattle.std.proofs.lemmas.List.{append-nil}
 use Rattle.can_model.specs.Refusal.{Refusal}
 use Rattle.can_model.specs.declared.refusal.TextKind.{TextKind}
 use Rattle.can_model.specs.declared.refusal.TextKind.TheVariants.{Unexpected}
-use Rattle.dbc_reader.specs.declared.token.Token.{Token}
-use Rattle.dbc_reader.specs.declared.token.Token.TheVariants.{Word, Number, String, Mark, Bad}
-use Rattle.dbc_reader.specs.declared.token.Lexed.{Lexed}
+use Rattle.dbc_reader.specs.Token.{Token, Word, Number, String, Mark, Bad, Lexed}
 use Rattle.dbc_reader.specs.Template.{Kept}
 use Rattle.dbc_reader.specs.Document.{statement, statement_of, document}
 use Rattle.dbc_reader.specs.Reading.{fault_at, template_at, all_of}

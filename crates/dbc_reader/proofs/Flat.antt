@@ -1,9 +1,7 @@
 -- Reading row by row is reading the template of a statement.
 use Rattle.std.proofs.Common.{◌≡◌, ℕ, Bool, true, false, cond, List, [], ◌∷◌, Result, Ok, Err, refl, ◌∙◌}
 use Rattle.can_model.specs.Refusal.{Refusal}
-use Rattle.dbc_reader.specs.declared.token.Token.{Token}
-use Rattle.dbc_reader.specs.declared.token.Token.TheVariants.{Word, Number, String, Mark, Bad}
-use Rattle.dbc_reader.specs.declared.token.Lexed.{Lexed}
+use Rattle.dbc_reader.specs.Token.{Token, Word, Lexed}
 use Rattle.dbc_reader.specs.Template.{Test, Template, Kept, is_word, first_word, first_mark, given_of, passes}
 use Rattle.dbc_reader.specs.Parts.{is_the}
 use Rattle.dbc_reader.specs.Rows.{Row, other}
@@ -13,24 +11,17 @@ use Rattle.dbc_reader.specs.Flat.{row_at}
 use Rattle.dbc_reader.proofs.Exact.{left, right}
 use Rattle.dbc_reader.proofs.Views.{viewed}
 
--- a word gives its line
-word_line : (ws : List (List ℕ)) → (x : Lexed) (xs : List Lexed) (end : ℕ) → passes (Test.is_word_in ws) x.token ≡ true → one_at end first_word (x ∷ xs) ≡ Ok (x.line, xs)
-word_line ws x xs end h = at x.token h where
-  at : (k : Token) → passes (Test.is_word_in ws) k ≡ true → with_rest (given_of first_word k x.line) x.line xs ≡ Ok (x.line, xs)
-  at (Word w) e = refl
-  at (Number d) e = absurd cc
-  at (String d) e = absurd cc
-  at (Mark d) e = absurd cc
-  at (Bad d) e = absurd cc
+-- one of some words is a word
+a_word : (ws : List (List ℕ)) (k : Token) → passes (Test.is_word_in ws) k ≡ true → passes is_word k ≡ true
+a_word ws (Word w) e = refl
+a_word ws k e = e
 
-word_is : (x : Lexed) (xs : List Lexed) (end : ℕ) → passes is_word x.token ≡ true → one_at end first_word (x ∷ xs) ≡ Ok (x.line, xs)
-word_is x xs end h = at x.token h where
+-- a word gives its line
+word_line : (x : Lexed) (xs : List Lexed) (end : ℕ) → passes is_word x.token ≡ true → one_at end first_word (x ∷ xs) ≡ Ok (x.line, xs)
+word_line x xs end h = at x.token h where
   at : (k : Token) → passes is_word k ≡ true → with_rest (given_of first_word k x.line) x.line xs ≡ Ok (x.line, xs)
   at (Word w) e = refl
-  at (Number d) e = absurd cc
-  at (String d) e = absurd cc
-  at (Mark d) e = absurd cc
-  at (Bad d) e = absurd cc
+  at k e = absurd cc
 
 lone : (q : Result (ℕ × List Lexed) Refusal) → viewed (made []) (right {A = ℕ × Kept other} q) ≡ viewed skipped q
 lone (Ok y) = refl
@@ -43,7 +34,7 @@ behind line (Err d) = refl
 at_end : (x : Lexed) (xs : List Lexed) (end : ℕ) → seen end (table []) (made []) (x ∷ xs) ≡ row_at [] end x xs
 at_end x xs end = by_case (passes is_word x.token) refl where
   by_case : (c : Bool) → passes is_word x.token ≡ c → seen end (table []) (made []) (x ∷ xs) ≡ row_at [] end x xs
-  by_case true e = rw (e, word_is x xs end e) (behind x.line (template_at end other xs))
+  by_case true e = rw (e, word_line x xs end e) (behind x.line (template_at end other xs))
   by_case false e = rw e (lone (one_at end (first_mark 59) (x ∷ xs)))
 
 module _ (end : ℕ) (x : Lexed) (xs : List Lexed) where
@@ -57,7 +48,7 @@ module _ (end : ℕ) (x : Lexed) (xs : List Lexed) where
 
   reads : (r : Row) (rs : List Row) → (c : Bool) → passes (is_the r.first) x.token ≡ c → viewed (made rs) (template_at end (table rs) (x ∷ xs)) ≡ row_at rs end x xs
       → viewed (made (r ∷ rs)) (cond c (left (template_at end (Template.both (Template.take first_word) r.template) (x ∷ xs))) (right (template_at end (table rs) (x ∷ xs)))) ≡ cond c (viewed (λ y. record { line = x.line; body = y }) (seen end r.template r.body xs)) (row_at rs end x xs)
-  reads r rs true e ih = rw (word_line (r.first ∷ []) x xs end e) (in_row r rs (template_at end r.template xs))
+  reads r rs true e ih = rw (word_line x xs end (a_word (r.first ∷ []) x.token e)) (in_row r rs (template_at end r.template xs))
   reads r rs false e ih = below r rs (template_at end (table rs) (x ∷ xs)) ∙ ih
 
   pub table_read : (rs : List Row) → seen end (table rs) (made rs) (x ∷ xs) ≡ row_at rs end x xs

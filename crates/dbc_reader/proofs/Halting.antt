@@ -9,9 +9,7 @@ use Rattle.can_model.specs.Refusal.{Refusal}
 use Rattle.can_model.specs.declared.refusal.TextKind.{TextKind}
 use Rattle.can_model.specs.declared.refusal.TextKind.TheVariants.{Unexpected, BadNumber}
 use Rattle.limit_fraction.specs.Decimal.{zero_decimal}
-use Rattle.dbc_reader.specs.declared.token.Token.{Token}
-use Rattle.dbc_reader.specs.declared.token.Token.TheVariants.{Word, Number, String, Mark, Bad}
-use Rattle.dbc_reader.specs.declared.token.Lexed.{Lexed}
+use Rattle.dbc_reader.specs.Token.{Token, Word, Number, String, Mark, Bad, Lexed}
 use Rattle.dbc_reader.specs.Template.{Want, first_word, first_mark, word, string, mark, sign, whole_number, decimal, Test, Template, done, take, both, choose, repeat, skip, stop, Given, Kept, value_or_fault, sign_of_mark, given_of, given, passes}
 use Rattle.dbc_reader.specs.Reading.{fault_at, with_rest, one_at, unless_at, repeat_at, template_at}
 use Rattle.dbc_reader.specs.Statements.{Passes, Rounds, Fits}

@@ -14,7 +14,7 @@ pub mod Loop
 pub mod Views
 pub mod Flat
 pub mod Stepwise
-pub mod All
+pub mod WholeText
 pub mod Bounded
 pub mod Worked
 pub mod Definite

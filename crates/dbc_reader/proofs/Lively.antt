@@ -3,8 +3,7 @@ use Rattle.std.proofs.Common.{◌≡◌, ◌⊎◌, inl, inr, ℕ, false, ◌<�
 use Rattle.limit_fraction.specs.Decimal.{zero_decimal}
 use Rattle.limit_fraction.specs.Reading.{decimal_of}
 use Rattle.std.specs.declared.option.Option.TheVariants.{Some}
-use Rattle.dbc_reader.specs.declared.token.Token.TheVariants.{Word, Number, String, Mark}
-use Rattle.dbc_reader.specs.declared.token.Lexed.{Lexed}
+use Rattle.dbc_reader.specs.Token.{Word, Number, String, Mark, Lexed}
 use Rattle.dbc_reader.specs.Template.{Want, first_word, first_mark, word, string, mark, sign, whole_number, decimal, Test, Template, done, take, both, choose, repeat, skip, stop, Given, Kept, value_or_fault, given, passes}
 use Rattle.dbc_reader.specs.Statements.{EndsRun, Passes, Rounds, Fits}
 use Rattle.dbc_reader.proofs.WholeNumbers.{whole_in-zero}

@@ -1,14 +1,14 @@
 -- Reading one statement after the other: what was read so far, joined with what reading gives behind it, is what reading gives.
-use Rattle.std.proofs.Common.{◌≡◌, ℕ, ◌≤◌, ◌<◌, ◌-◌, List, [], ◌∷◌, ◌++◌, map, length, take, drop, get_or, Result, Ok, Err, refl, sym, ap, subst, ◌∙◌, append_assoc, arith}
+use Rattle.std.proofs.Common.{◌≡◌, ℕ, true, false, ◌≤◌, ◌<◌, ◌-◌, List, [], ◌∷◌, ◌++◌, map, length, take, drop, get_or, Result, Ok, Err, refl, sym, ap, subst, ◌∙◌, append_assoc, arith}
 use Rattle.std.proofs.lemmas.List.{append-nil}
 use Rattle.std.proofs.Math.Seq.{take-length}
 use Rattle.cg_out.specs.Words.{◌>>=◌}
 use Rattle.can_model.specs.Refusal.{Refusal}
 use Rattle.can_model.specs.declared.refusal.TextFault.{TextFault}
 use Rattle.can_model.specs.declared.refusal.TextFault.TheVariants.{Fault, Memory}
-use Rattle.dbc_reader.specs.declared.token.Lexed.{Lexed}
+use Rattle.dbc_reader.specs.Token.{Lexed}
 use Rattle.dbc_reader.specs.Template.{Test, Template, Kept}
-use Rattle.dbc_reader.specs.Reading.{template_at, repeat_at, seen}
+use Rattle.dbc_reader.specs.Reading.{next_passes, template_at, repeat_at, seen}
 use Rattle.dbc_reader.specs.Statements.{EndsRun, Passes}
 use Rattle.dbc_reader.proofs.Steps.{bind_ok, bind_err, ok_is, Shortens, and_rounds, IsRegular, fits_eats, repeat-step, repeat-stop, repeat-end}
 use Rattle.dbc_reader.proofs.Exact.{template_fits}
@@ -29,6 +29,15 @@ first_and_rest (y ∷ ys) x h e =
     let n : length (y ∷ ys) - 1 ≡ length ys = omega arith in
     let t : take (length (y ∷ ys) - 1) ys ≡ ys = rw n (take-length ys) in
     λ i. (sym e i) ∷ (sym t i)
+
+-- what a loop's test says of the tokens
+pub next_true : (p : Test) (ts : List Lexed) → next_passes p ts ≡ true → Passes p ts
+next_true p [] h = absurd cc
+next_true p (x ∷ xs) h = h
+
+pub next_false : (p : Test) (ts : List Lexed) → next_passes p ts ≡ false → EndsRun p ts
+next_false p [] h = tt
+next_false p (x ∷ xs) h = h
 
 module _ (end : ℕ) (p : Test) (t : Template) (S : Type 0) (view : Kept t → S) (r : IsRegular (Template.repeat p t)) where
   -- all rounds, seen one by one

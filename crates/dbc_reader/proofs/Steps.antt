@@ -3,7 +3,7 @@ use Rattle.std.proofs.Common.{◌≡◌, ◌⊎◌, inl, inr, ℕ, zero, suc, �
 use Rattle.std.proofs.lemmas.List.{length-append}
 use Rattle.cg_out.specs.Words.{◌>>=◌}
 use Rattle.can_model.specs.Refusal.{Refusal}
-use Rattle.dbc_reader.specs.declared.token.Lexed.{Lexed}
+use Rattle.dbc_reader.specs.Token.{Lexed}
 use Rattle.dbc_reader.specs.Template.{Test, Template, done, take, both, choose, repeat, skip, stop, Kept, passes}
 use Rattle.dbc_reader.specs.Reading.{next_passes, rounds_at, repeat_at}
 use Rattle.dbc_reader.specs.Statements.{EndsRun, Passes, Rounds, Fits}

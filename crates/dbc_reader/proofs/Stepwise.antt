@@ -11,7 +11,7 @@ use Rattle.dbc_reader.specs.declared.statement.ChoicePair.{ChoicePair}
 use Rattle.dbc_reader.specs.declared.statement.Body.{Body}
 use Rattle.dbc_reader.specs.declared.statement.Body.TheVariants as bodies
 use Rattle.dbc_reader.specs.declared.rows.Layout.{Layout}
-use Rattle.dbc_reader.specs.declared.token.Lexed.{Lexed}
+use Rattle.dbc_reader.specs.Token.{Lexed}
 use Rattle.dbc_reader.specs.Template.{Template, Kept, word, string, mark, whole_number, is_mux_word, take, both, stop}
 use Rattle.dbc_reader.specs.Parts.{value, value_of, enclosed, enclosed_of, target, owner_of, attribute_value, attribute_value_of, default_value, default_value_of, pairs, pairs_of, range, range_of, further, with_ranges, some_ranges, some_ranges_of, receivers, receivers_of, option_of}
 use Rattle.dbc_reader.specs.Rows.{layout, layout_of, scaling, limits, signal, signal_from, signal_body, comment, comment_body, default, default_body, attribute, attribute_body, choices_id, choices, choices_body, ranges, ranges_body}

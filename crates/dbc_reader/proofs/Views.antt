@@ -2,7 +2,7 @@
 use Rattle.std.proofs.Common.{◌≡◌, ℕ, List, [], ◌∷◌, map, Result, Ok, Err, refl}
 use Rattle.cg_out.specs.Words.{◌>>=◌}
 use Rattle.can_model.specs.Refusal.{Refusal}
-use Rattle.dbc_reader.specs.declared.token.Lexed.{Lexed}
+use Rattle.dbc_reader.specs.Token.{Lexed}
 use Rattle.dbc_reader.specs.Template.{Want, Given, Test, Template, take, both, repeat, Kept}
 use Rattle.dbc_reader.specs.Reading.{one_at, template_at, seen}
 use Rattle.dbc_reader.proofs.Loop.{with_front}

@@ -2,7 +2,7 @@
 use Rattle.std.specs.Prelude.{ℕ, if◌then◌else◌, List, [], ◌∷◌, Result, Ok}
 use Rattle.cg_out.specs.Words.{◌>>=◌}
 use Rattle.can_model.specs.Refusal.{Refusal}
-use Rattle.dbc_reader.specs.declared.token.Lexed.{Lexed}
+use Rattle.dbc_reader.specs.Token.{Lexed}
 use Rattle.dbc_reader.specs.declared.statement.Statement.{Statement}
 use Rattle.dbc_reader.specs.Template.{is_word, first_mark, passes}
 use Rattle.dbc_reader.specs.Parts.{is_the}

@@ -1,4 +1,5 @@
 -- What the promises rest on.
+pub mod Token
 pub mod Tokens
 pub mod Spelling
 pub mod Keywords
@@ -15,3 +16,4 @@ pub mod Bounds
 -- What the functions inside promise each other.
 pub mod Flat
 pub mod Checks
+pub mod Shown

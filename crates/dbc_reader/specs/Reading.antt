@@ -6,7 +6,7 @@ use Rattle.can_model.specs.Refusal.{Refusal}
 use Rattle.can_model.specs.declared.refusal.TextKind.{TextKind}
 use Rattle.can_model.specs.declared.refusal.TextKind.TheVariants.{Unexpected, TooLarge}
 use Rattle.can_model.specs.declared.refusal.TheConstants.{TEXT_LIMIT}
-use Rattle.dbc_reader.specs.declared.token.Lexed.{Lexed}
+use Rattle.dbc_reader.specs.Token.{Lexed}
 use Rattle.dbc_reader.specs.declared.statement.Statement.{Statement}
 use Rattle.dbc_reader.specs.Tokens.{tokens, end_line}
 use Rattle.dbc_reader.specs.Template.{Want, Given, Test, Template, done, take, both, choose, repeat, skip, stop, Kept, given, passes}

@@ -2,7 +2,7 @@
 use Rattle.std.specs.Prelude.{◌≡◌, ℕ, true, false, List, [], ◌∷◌, ◌++◌, Ok, map}
 use Rattle.std.proofs.Common.{inl, inr}
 use Rattle.std.specs.List.{AllByRecursion}
-use Rattle.dbc_reader.specs.declared.token.Lexed.{Lexed}
+use Rattle.dbc_reader.specs.Token.{Lexed}
 use Rattle.dbc_reader.specs.declared.statement.Statement.{Statement}
 use Rattle.dbc_reader.specs.Spelling.{IsTokenList}
 use Rattle.dbc_reader.specs.Template.{Test, Template, done, take, both, choose, repeat, skip, stop, Kept, given, passes}

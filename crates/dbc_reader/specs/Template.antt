@@ -8,9 +8,7 @@ use Rattle.limit_fraction.specs.declared.number.Decimal.{Decimal}
 use Rattle.limit_fraction.specs.Reading.{decimal_of}
 use Rattle.can_model.specs.declared.refusal.TextKind.{TextKind}
 use Rattle.can_model.specs.declared.refusal.TextKind.TheVariants.{BadNumber, Unexpected}
-use Rattle.dbc_reader.specs.declared.token.Token.{Token}
-use Rattle.dbc_reader.specs.declared.token.Token.TheVariants.{Word, Number, String, Mark, Bad}
-use Rattle.dbc_reader.specs.declared.token.Lexed.{Lexed}
+use Rattle.dbc_reader.specs.Token.{Token, Word, Number, String, Mark, Bad, Lexed}
 use Rattle.dbc_reader.specs.Keywords.{keyword}
 use Rattle.dbc_reader.specs.Number.{whole_in}
 use Rattle.dbc_reader.specs.MuxWord.{is_mux}

@@ -17,9 +17,10 @@ use crate::rows::{
 };
 use crate::statement::{Body, Statement};
 use crate::taking::{Check, fault, past_run};
-use crate::token::{Lexed, Token};
+use crate::token::{Lexed, Token, Tokens};
 use can_model::{TEXT_LIMIT, TextFault, TextKind};
 use std::alloc::Global;
+use std::convert::identity;
 
 /// The statements of a DBC text, in their order.
 ///
@@ -59,7 +60,7 @@ fn is_too_large(text: &[u8]) -> bool
     text.len() > TEXT_LIMIT
 }
 
-fn read_all(alloc: Global, tokens: &[Lexed], end: u32) -> Result<Vec<Statement>, TextFault>
+fn read_all(alloc: Global, tokens: Tokens<'_>, end: u32) -> Result<Vec<Statement>, TextFault>
     ensures { Gives (λ v. v.items) result (all_of end tokens.now) }
 {
     let mut list = Vec::new(alloc);
@@ -67,7 +68,8 @@ fn read_all(alloc: Global, tokens: &[Lexed], end: u32) -> Result<Vec<Statement>,
     while let [first, rest @ ..] = left {
         let (statement, after) = read_statement(alloc, first, rest, end)?;
         list.push(statement)?;
-        left = after;
+        // The check brings `after` to the lifetime of `left` in a call, not in an assignment.
+        left = identity(after);
     }
     Ok(list)
 }
@@ -75,17 +77,16 @@ fn read_all(alloc: Global, tokens: &[Lexed], end: u32) -> Result<Vec<Statement>,
 /// The statement whose first token is this one, and what follows.
 fn read_statement<'a>(
     alloc: Global,
-    first: &'a Lexed,
-    rest: &'a [Lexed],
+    first: &Lexed<'_>,
+    rest: Tokens<'a>,
     end: u32,
-) -> Result<(Statement, &'a [Lexed]), TextFault>
+) -> Result<(Statement, Tokens<'a>), TextFault>
     ensures { Gives (λ s. (s.0, s.1.now)) result (row_at rows end first.now rest.now) }
 {
-    let line = first.line;
-    let Token::Word(text) = &first.token else {
+    let line = first.line();
+    let Token::Word(word) = first.token() else {
         return read_fact(alloc, first, rest, end);
     };
-    let word = text.bytes();
     if word == b"VERSION".as_slice() {
         Ok((skipped(line), read_version(rest)))
     } else if word == b"NS_".as_slice() {
@@ -108,17 +109,16 @@ fn read_statement<'a>(
 /// A statement that says more of what is sent, or one of which nothing is kept.
 fn read_fact<'a>(
     alloc: Global,
-    first: &'a Lexed,
-    rest: &'a [Lexed],
+    first: &Lexed<'_>,
+    rest: Tokens<'a>,
     end: u32,
-) -> Result<(Statement, &'a [Lexed]), TextFault>
+) -> Result<(Statement, Tokens<'a>), TextFault>
     ensures { Gives (λ s. (s.0, s.1.now)) result (row_at rows_of_facts end first.now rest.now) }
 {
-    let line = first.line;
-    let Token::Word(text) = &first.token else {
+    let line = first.line();
+    let Token::Word(word) = first.token() else {
         return read_other_statement(first, rest, end);
     };
-    let word = text.bytes();
     let (body, rest) = if word == b"CM_".as_slice() {
         read_comment(alloc, rest, end)?
     } else if word == b"BA_DEF_DEF_".as_slice() {
@@ -139,17 +139,17 @@ fn read_fact<'a>(
 
 /// A statement of which nothing is kept, to its `;`; or a lone `;`.
 fn read_other_statement<'a>(
-    first: &'a Lexed,
-    rest: &'a [Lexed],
+    first: &Lexed<'_>,
+    rest: Tokens<'a>,
     end: u32,
-) -> Result<(Statement, &'a [Lexed]), TextFault>
+) -> Result<(Statement, Tokens<'a>), TextFault>
     ensures { Gives (λ s. (s.0, s.1.now)) result (row_at [] end first.now rest.now) }
 {
-    let line = first.line;
-    match &first.token {
+    let line = first.line();
+    match first.token() {
         Token::Word(_) => Ok((skipped(line), read_other(rest, end)?)),
         Token::Mark(b';') => Ok((skipped(line), rest)),
-        Token::Bad(kind) => Err(fault(*kind, line)),
+        Token::Bad(kind) => Err(fault(kind, line)),
         _ => Err(fault(TextKind::Unexpected, line)),
     }
 }

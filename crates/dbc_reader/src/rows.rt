@@ -14,26 +14,26 @@ use crate::taking::{
     Check, is_next, past_run, refuse_mux_word, take_mark, take_sign, take_string, take_whole,
     take_word,
 };
-use crate::token::{Lexed, Token};
+use crate::token::{Token, Tokens};
 use can_model::TextFault;
 use cg_out::Text;
 use std::alloc::Global;
 
 /// An optional string.
-pub fn read_version(tokens: &[Lexed]) -> &[Lexed]
+pub fn read_version(tokens: Tokens<'_>) -> Tokens<'_>
     ensures { (end : ℕ) → seen end rows.version rows.nothing_kept tokens.now ≡ Ok (Body.Skipped, result.now) }
 {
     let [first, rest @ ..] = tokens else {
         return tokens;
     };
-    match &first.token {
+    match first.token() {
         Token::String(_) => rest,
         _ => tokens,
     }
 }
 
 /// `:` and a run of numbers, `:` and `,`.
-pub fn read_speeds(tokens: &[Lexed], end: u32) -> Result<&[Lexed], TextFault>
+pub fn read_speeds(tokens: Tokens<'_>, end: u32) -> Result<Tokens<'_>, TextFault>
     ensures { Gives (λ x. (Body.Skipped, x.now)) result (seen end rows.speeds rows.nothing_kept tokens.now) }
 {
     let rest = take_mark(tokens, b':', end)?;
@@ -41,7 +41,7 @@ pub fn read_speeds(tokens: &[Lexed], end: u32) -> Result<&[Lexed], TextFault>
 }
 
 /// `:` and a run of names.
-pub fn read_nodes(tokens: &[Lexed], end: u32) -> Result<&[Lexed], TextFault>
+pub fn read_nodes(tokens: Tokens<'_>, end: u32) -> Result<Tokens<'_>, TextFault>
     ensures { Gives (λ x. (Body.Skipped, x.now)) result (seen end rows.nodes rows.nothing_kept tokens.now) }
 {
     let rest = take_mark(tokens, b':', end)?;
@@ -51,9 +51,9 @@ pub fn read_nodes(tokens: &[Lexed], end: u32) -> Result<&[Lexed], TextFault>
 /// The id, the name, `:`, the length and the sender.
 pub fn read_message(
     alloc: Global,
-    tokens: &[Lexed],
+    tokens: Tokens<'_>,
     end: u32,
-) -> Result<(Body, &[Lexed]), TextFault>
+) -> Result<(Body, Tokens<'_>), TextFault>
     ensures { Gives (λ x. (x.0, x.1.now)) result (seen end rows.message rows.message_body tokens.now) }
 {
     let (id, rest) = take_whole(tokens, u32::MAX, end)?;
@@ -61,7 +61,7 @@ pub fn read_message(
     let rest = take_mark(rest, b':', end)?;
     let (length, rest) = take_whole(rest, 65535, end)?;
     let (_sender, rest) = take_word(rest, end)?;
-    let name = Text::copy_of(alloc, name.bytes())?;
+    let name = Text::copy_of(alloc, name)?;
     Ok((Body::Message { id, name, length }, rest))
 }
 
@@ -75,7 +75,7 @@ struct Layout {
 }
 
 /// The start, `|`, the length, `@`, 1 for Intel or 0 for Motorola, and the sign.
-fn read_layout(tokens: &[Lexed], end: u32) -> Result<(Layout, &[Lexed]), TextFault>
+fn read_layout(tokens: Tokens<'_>, end: u32) -> Result<(Layout, Tokens<'_>), TextFault>
     ensures { Gives (λ x. (x.0, x.1.now)) result (seen end rows.layout rows.layout_of tokens.now) }
 {
     let (start, rest) = take_whole(tokens, 65535, end)?;
@@ -95,7 +95,11 @@ fn read_layout(tokens: &[Lexed], end: u32) -> Result<(Layout, &[Lexed]), TextFau
 
 /// The name, `:`, the layout, the scaling, the limits, the unit and the receivers.
 #[tactic(auto, using(crate::proofs::Stepwise::signal_steps))]
-pub fn read_signal(alloc: Global, tokens: &[Lexed], end: u32) -> Result<(Body, &[Lexed]), TextFault>
+pub fn read_signal(
+    alloc: Global,
+    tokens: Tokens<'_>,
+    end: u32,
+) -> Result<(Body, Tokens<'_>), TextFault>
     ensures { Gives (λ x. (x.0, x.1.now)) result (seen end rows.signal rows.signal_body tokens.now) }
 {
     let (name, rest) = take_word(tokens, end)?;
@@ -107,7 +111,7 @@ pub fn read_signal(alloc: Global, tokens: &[Lexed], end: u32) -> Result<(Body, &
     let (unit, rest) = take_string(rest, end)?;
     let (receivers, rest) = read_receivers(alloc, rest, end)?;
     let body = Body::Signal {
-        name: Text::copy_of(alloc, name.bytes())?,
+        name: Text::copy_of(alloc, name)?,
         start: layout.start,
         length: layout.length,
         motorola: layout.motorola,
@@ -116,7 +120,7 @@ pub fn read_signal(alloc: Global, tokens: &[Lexed], end: u32) -> Result<(Body, &
         offset,
         min,
         max,
-        unit: Text::copy_of(alloc, unit.bytes())?,
+        unit: Text::copy_of(alloc, unit)?,
         receivers,
     };
     Ok((body, rest))
@@ -126,15 +130,15 @@ pub fn read_signal(alloc: Global, tokens: &[Lexed], end: u32) -> Result<(Body, &
 #[tactic(auto, using(crate::proofs::Stepwise::comment_steps))]
 pub fn read_comment(
     alloc: Global,
-    tokens: &[Lexed],
+    tokens: Tokens<'_>,
     end: u32,
-) -> Result<(Body, &[Lexed]), TextFault>
+) -> Result<(Body, Tokens<'_>), TextFault>
     ensures { Gives (λ x. (x.0, x.1.now)) result (seen end rows.comment rows.comment_body tokens.now) }
 {
     let (target, rest) = read_target(alloc, tokens, end)?;
     let (text, rest) = take_string(rest, end)?;
     let rest = take_mark(rest, b';', end)?;
-    let text = Text::copy_of(alloc, text.bytes())?;
+    let text = Text::copy_of(alloc, text)?;
     Ok((Body::Comment { target, text }, rest))
 }
 
@@ -142,15 +146,15 @@ pub fn read_comment(
 #[tactic(auto, using(crate::proofs::Stepwise::default_steps))]
 pub fn read_default(
     alloc: Global,
-    tokens: &[Lexed],
+    tokens: Tokens<'_>,
     end: u32,
-) -> Result<(Body, &[Lexed]), TextFault>
+) -> Result<(Body, Tokens<'_>), TextFault>
     ensures { Gives (λ x. (x.0, x.1.now)) result (seen end rows.default rows.default_body tokens.now) }
 {
     let (name, rest) = take_string(tokens, end)?;
     let (value, rest) = read_default_value(alloc, rest, end)?;
     let rest = take_mark(rest, b';', end)?;
-    let name = Text::copy_of(alloc, name.bytes())?;
+    let name = Text::copy_of(alloc, name)?;
     Ok((Body::Default { name, value }, rest))
 }
 
@@ -158,9 +162,9 @@ pub fn read_default(
 #[tactic(auto, using(crate::proofs::Stepwise::attribute_steps))]
 pub fn read_attribute(
     alloc: Global,
-    tokens: &[Lexed],
+    tokens: Tokens<'_>,
     end: u32,
-) -> Result<(Body, &[Lexed]), TextFault>
+) -> Result<(Body, Tokens<'_>), TextFault>
     ensures { Gives (λ x. (x.0, x.1.now)) result (seen end rows.attribute rows.attribute_body tokens.now) }
 {
     let (name, rest) = take_string(tokens, end)?;
@@ -168,7 +172,7 @@ pub fn read_attribute(
     let (value, rest) = read_attribute_value(alloc, rest, end)?;
     let rest = take_mark(rest, b';', end)?;
     let body = Body::Attribute {
-        name: Text::copy_of(alloc, name.bytes())?,
+        name: Text::copy_of(alloc, name)?,
         target,
         value,
     };
@@ -176,7 +180,7 @@ pub fn read_attribute(
 }
 
 /// A message's id, where a number follows.
-fn read_choices_id(tokens: &[Lexed], end: u32) -> Result<(Option<u32>, &[Lexed]), TextFault>
+fn read_choices_id(tokens: Tokens<'_>, end: u32) -> Result<(Option<u32>, Tokens<'_>), TextFault>
     ensures { Gives (λ x. (x.0, x.1.now)) result (seen end rows.choices_id parts.option_of tokens.now) }
 {
     if is_next(Check::Number, tokens) {
@@ -191,25 +195,25 @@ fn read_choices_id(tokens: &[Lexed], end: u32) -> Result<(Option<u32>, &[Lexed])
 #[tactic(auto, using(crate::proofs::Stepwise::choices_steps))]
 pub fn read_choices(
     alloc: Global,
-    tokens: &[Lexed],
+    tokens: Tokens<'_>,
     end: u32,
-) -> Result<(Body, &[Lexed]), TextFault>
+) -> Result<(Body, Tokens<'_>), TextFault>
     ensures { Gives (λ x. (x.0, x.1.now)) result (seen end rows.choices rows.choices_body tokens.now) }
 {
     let (id, rest) = read_choices_id(tokens, end)?;
     let (name, rest) = take_word(rest, end)?;
     let (pairs, rest) = read_pairs(alloc, rest, end)?;
     let rest = take_mark(rest, b';', end)?;
-    let name = Text::copy_of(alloc, name.bytes())?;
+    let name = Text::copy_of(alloc, name)?;
     Ok((Body::Choices { id, name, pairs }, rest))
 }
 
 /// The id, the name, an optional `:`, a number up to 255 and `;`.
 pub fn read_value_type(
     alloc: Global,
-    tokens: &[Lexed],
+    tokens: Tokens<'_>,
     end: u32,
-) -> Result<(Body, &[Lexed]), TextFault>
+) -> Result<(Body, Tokens<'_>), TextFault>
     ensures { Gives (λ x. (x.0, x.1.now)) result (seen end rows.value_type rows.value_type_body tokens.now) }
 {
     let (id, rest) = take_whole(tokens, u32::MAX, end)?;
@@ -221,7 +225,7 @@ pub fn read_value_type(
     };
     let (number, rest) = take_whole(rest, 255, end)?;
     let rest = take_mark(rest, b';', end)?;
-    let name = Text::copy_of(alloc, name.bytes())?;
+    let name = Text::copy_of(alloc, name)?;
     Ok((Body::ValueType { id, name, number }, rest))
 }
 
@@ -229,9 +233,9 @@ pub fn read_value_type(
 #[tactic(auto, using(crate::proofs::Stepwise::ranges_row_steps))]
 pub fn read_ranges_row(
     alloc: Global,
-    tokens: &[Lexed],
+    tokens: Tokens<'_>,
     end: u32,
-) -> Result<(Body, &[Lexed]), TextFault>
+) -> Result<(Body, Tokens<'_>), TextFault>
     ensures { Gives (λ x. (x.0, x.1.now)) result (seen end rows.ranges rows.ranges_body tokens.now) }
 {
     let (id, rest) = take_whole(tokens, u32::MAX, end)?;
@@ -241,15 +245,15 @@ pub fn read_ranges_row(
     let rest = take_mark(rest, b';', end)?;
     let body = Body::Ranges {
         id,
-        child: Text::copy_of(alloc, child.bytes())?,
-        selector: Text::copy_of(alloc, selector.bytes())?,
+        child: Text::copy_of(alloc, child)?,
+        selector: Text::copy_of(alloc, selector)?,
         ranges,
     };
     Ok((body, rest))
 }
 
 /// All tokens up to and with the next `;`.
-pub fn read_other(tokens: &[Lexed], end: u32) -> Result<&[Lexed], TextFault>
+pub fn read_other(tokens: Tokens<'_>, end: u32) -> Result<Tokens<'_>, TextFault>
     ensures { Gives (λ x. (Body.Skipped, x.now)) result (seen end rows.other rows.nothing_kept tokens.now) }
 {
     let rest = past_run(Check::UnlessMark(b';'), tokens);

@@ -4,9 +4,8 @@ use Rattle.dbc_reader.specs.Template.{is_mark}
 use Rattle.dbc_reader.specs.Parts.{with_comma, further, range, range_behind, with_ranges}
 use Rattle.dbc_reader.specs.Reading.{seen}
 use Rattle.dbc_reader.proofs.Documents.{ranges_regular}
-use Rattle.dbc_reader.proofs.Loop.{goes_on, ends, is_done, seen_shorter}
+use Rattle.dbc_reader.proofs.Loop.{goes_on, ends, is_done, seen_shorter, next_true, next_false}
 use Rattle.dbc_reader.proofs.Views.{seen_first}
-use Rattle.dbc_reader.proofs.All.{next_true, next_false}
 use Rattle.dbc_reader.proofs.parts.read_further_ranges.Goals as goal
 
 pub loop-left-init : goal.loop-left-init
@@ -21,10 +20,10 @@ returns-in_err-range c =
 pub loop-left-preserved : goal.loop-left-preserved
 loop-left-preserved c =
     let ls = c.loop-left.left.now in
-    rw c.in_ok-push-2.ensures.ok (goes_on c.args.end (is_mark 44) (with_comma range) _ range_behind ranges_regular c.loop-left.list ls (c.in_ok-range.range, c.in_ok-range.after.now) (seen c.args.end (further range) (with_ranges c.args.first) c.args.tokens.now) (next_true (is_mark 44) ls (sym c.is_next.ensures ∙ c.loop-left-test.true)) c.in_ok-range.ensures c.loop-left.invariant)
+    rw (c.identity-left.ensures, c.in_ok-push-2.ensures.ok) (goes_on c.args.end (is_mark 44) (with_comma range) _ range_behind ranges_regular c.loop-left.list ls (c.in_ok-range.range, c.in_ok-range.after.now) (seen c.args.end (further range) (with_ranges c.args.first) c.args.tokens.now) (next_true (is_mark 44) ls (sym c.is_next.ensures ∙ c.loop-left-test.true)) c.in_ok-range.ensures c.loop-left.invariant)
 
 pub loop-left-smaller : goal.loop-left-smaller
-loop-left-smaller c = seen_shorter c.args.end (is_mark 44) (with_comma range) _ range_behind ranges_regular c.loop-left.left.now (c.in_ok-range.range, c.in_ok-range.after.now) c.in_ok-range.ensures
+loop-left-smaller c = rw c.identity-left.ensures (seen_shorter c.args.end (is_mark 44) (with_comma range) _ range_behind ranges_regular c.loop-left.left.now (c.in_ok-range.range, c.in_ok-range.after.now) c.in_ok-range.ensures)
 
 pub returns : goal.returns
 returns c = is_done c.args.end (is_mark 44) (with_comma range) _ range_behind ranges_regular c.loop-left.list c.loop-left.left.now (seen c.args.end (further range) (with_ranges c.args.first) c.args.tokens.now) (next_false (is_mark 44) c.loop-left.left.now (sym c.is_next.ensures ∙ c.loop-left-test.false)) c.loop-left.invariant

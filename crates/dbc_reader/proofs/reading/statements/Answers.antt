@@ -1,6 +1,6 @@
 use Rattle.std.proofs.Common.{sym, ◌∙◌}
 use Rattle.dbc_reader.proofs.Bounded.{answer_bounded}
-use Rattle.dbc_reader.proofs.All.{is_found, is_only, is_fault, is_refused}
+use Rattle.dbc_reader.proofs.WholeText.{is_found, is_only, is_fault, is_refused}
 use Rattle.dbc_reader.proofs.reading.statements.Goals as goal
 
 pub returns-clause-exact : goal.returns-clause-exact

@@ -1,5 +1,5 @@
--- The loop over all statements, by the rows.
-use Rattle.std.proofs.Common.{◌≡◌, ℕ, suc, true, false, ◌<◌, List, [], ◌∷◌, ◌++◌, map, length, Result, Ok, Err, refl, sym, ap, subst, ◌∙◌}
+-- A whole text: the loop over its statements, by the rows, and what the answer says of the text.
+use Rattle.std.proofs.Common.{◌≡◌, ℕ, suc, false, ◌<◌, List, [], ◌∷◌, ◌++◌, map, length, Result, Ok, Err, refl, sym, ap, subst, ◌∙◌}
 use Rattle.std.specs.Prelude.{IfOk}
 use Rattle.std.specs.Global.{Vec}
 use Rattle.cg_out.specs.Words.{◌>>=◌}
@@ -7,16 +7,16 @@ use Rattle.can_model.specs.Refusal.{Refusal, Gives}
 use Rattle.can_model.specs.declared.refusal.TextKind.{TextKind}
 use Rattle.can_model.specs.declared.refusal.TextFault.{TextFault}
 use Rattle.can_model.specs.declared.refusal.TextFault.TheVariants.{Fault, Memory}
-use Rattle.dbc_reader.specs.declared.token.Lexed.{Lexed}
+use Rattle.dbc_reader.specs.Token.{Lexed}
 use Rattle.dbc_reader.specs.declared.statement.Statement.{Statement}
 use Rattle.dbc_reader.specs.Tokens.{tokens, end_line}
 use Rattle.dbc_reader.specs.Spelling.{IsTokenList}
-use Rattle.dbc_reader.specs.Template.{Test, anything}
+use Rattle.dbc_reader.specs.Template.{anything}
 use Rattle.dbc_reader.specs.Rows.{rows}
 use Rattle.dbc_reader.specs.Document.{statement, statement_of, document}
-use Rattle.dbc_reader.specs.Reading.{seen, next_passes, template_at, all_of, too_large}
+use Rattle.dbc_reader.specs.Reading.{seen, template_at, all_of, too_large}
 use Rattle.dbc_reader.specs.Flat.{row_at}
-use Rattle.dbc_reader.specs.Statements.{Passes, EndsRun, AreStatements, IsStatementList}
+use Rattle.dbc_reader.specs.Statements.{AreStatements, IsStatementList}
 use Rattle.dbc_reader.specs.FirstFault.{IsFirstTokenFault, IsFirstFault}
 use Rattle.dbc_reader.proofs.TokenSpelling.{tokens_spelled}
 use Rattle.dbc_reader.proofs.OneCut.{one_cut}
@@ -25,14 +25,6 @@ use Rattle.dbc_reader.proofs.Documents.{document_regular, all_sound, all_complet
 use Rattle.dbc_reader.proofs.FirstFault.{first_fault, fault_read}
 use Rattle.dbc_reader.proofs.Flat.{table_read}
 use Rattle.dbc_reader.proofs.Loop.{with_front, Fails, all_seen, goes_on, ends, is_done, seen_shorter}
-
-pub next_true : (p : Test) (ts : List Lexed) → next_passes p ts ≡ true → Passes p ts
-next_true p [] h = absurd cc
-next_true p (x ∷ xs) h = h
-
-pub next_false : (p : Test) (ts : List Lexed) → next_passes p ts ≡ false → EndsRun p ts
-next_false p [] h = tt
-next_false p (x ∷ xs) h = h
 
 abbrev pub total : ℕ → List Lexed → Result (List Statement × List Lexed) Refusal
 total end ts = all_seen end anything statement Statement statement_of document_regular ts
