@@ -1,1 +1,4 @@
 pub mod Worked
+pub mod Elements
+pub mod Chains
+pub mod Placed

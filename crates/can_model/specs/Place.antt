@@ -1,5 +1,5 @@
 -- Where the bits of a signal stand in a frame. Place n is bit n % 8 of byte n / 8, where bit 0 is the least significant.
-use Rattle.std.specs.Prelude.{◌≡◌, ℕ, ◌+◌, ◌-◌, ◌*◌, ◌/◌, ◌%◌, ◌<◌, true, if◌then◌else◌, MatchBool}
+use Rattle.std.specs.Prelude.{◌≡◌, ℕ, ◌+◌, ◌-◌, ◌*◌, ◌/◌, ◌%◌, ◌<◌, ◌≤◌, true, if◌then◌else◌, MatchBool}
 use Rattle.can_model.specs.declared.database.Signal.{Signal}
 use Rattle.can_model.specs.RawValue.{has_bits}
 
@@ -22,3 +22,9 @@ HasPlace s p = (has_bits s.length ≡ true) × ((k : ℕ) × (k < s.length) × I
 -- one place has bits of both signals
 abbrev pub SharePlace : Signal → Signal → Type 0
 SharePlace a b = (p : ℕ) × HasPlace a p × HasPlace b p
+
+-- a signal of 1 to 64 bits that stands within so many bytes
+pub record IsPlaced (s : Signal) (bytes : ℕ) : Type 0 where
+  pub bits : has_bits s.length ≡ true
+  pub start : s.start ≤ 65535
+  pub inside : (k : ℕ) → k < s.length → place_of s k < 8 * bytes

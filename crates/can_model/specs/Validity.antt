@@ -117,6 +117,10 @@ IsNoLater p k q l = (p.0 < q.0) ⊎ ((p.0 ≡ q.0) × ((p.1 < q.1) ⊎ ((p.1 ≡
 abbrev pub IsValid : Database → Type 0
 IsValid db = (p : Position) (f : Fault) → ¬ IsFault db p f
 
+-- a message of a database without a fault
+abbrev pub IsOfValidDatabase : Message → Type 0
+IsOfValidDatabase m = (db : Database) × (i : ℕ) × IsValid db × (slice_get db.messages i ≡ Some m)
+
 -- the database has this fault, and none comes before it
 pub record IsFirstFault (db : Database) (f : Fault) : Type 0 where
   pub position : Position

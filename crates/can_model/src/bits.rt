@@ -1,7 +1,7 @@
 //! Where the bits of a signal stand, and which values they hold.
 ghost use Rattle.std.specs.Prelude.{◌≡◌, ℕ, ◌+◌, ◌^◌, ◌<◌, ◌≤◌};
 ghost use Rattle.can_model.specs.Place.{rank, place_of, IsAt};
-ghost use Rattle.can_model.specs.RawValue.{has_bits, lowest, greatest, is_raw};
+ghost use Rattle.can_model.specs.RawValue.{has_bits, lowest, greatest, is_raw, field_bits, is_field_value};
 
 use crate::database::Signal;
 
@@ -56,6 +56,26 @@ pub fn has_bits(length: u32) -> bool
     ensures { result ≡ has_bits length }
 {
     1 <= length && length <= 64
+}
+
+/// Whether the value is one of the signal's field in C, which has the fewest of 8, 16, 32 and 64
+/// bits that hold the signal, and its sign: such a value may be wider than the signal.
+pub fn is_field_value(length: u32, signed: bool, value: i128) -> bool
+    ensures { result ≡ is_field_value length signed value }
+{
+    is_raw(field_bits(length), signed, value)
+}
+
+/// How many bits the C field of a signal of this many bits has.
+fn field_bits(length: u32) -> u32
+    ensures { result ≡ field_bits length }
+{
+    match length {
+        0..=8 => 8,
+        9..=16 => 16,
+        17..=32 => 32,
+        _ => 64,
+    }
 }
 
 fn lowest(length: u32, signed: bool) -> i128

@@ -14,7 +14,7 @@ use Rattle.db_check.specs.OfSignals as of_signals
 use Rattle.db_check.specs.OfSignals.{AreClean, IsFirstOfSignals}
 use Rattle.db_check.specs.OfMessage.{Has, IsCleanMessage, IsFirstOfMessage}
 use Rattle.db_check.specs.OfMessages.{IsCleanAt, IsFirstOfMessages}
-use Rattle.db_check.proofs.Elements.{some_and, and_some, if_some}
+use Rattle.can_model.proofs.Elements.{some_and, and_some, if_some}
 
 none_there : {A : Type 0} (P : A → Type 0) (o : Option A) → o ≡ None → ¬ IsSomeAnd o P
 none_there {A} P o e h = by (some_and P o h) where

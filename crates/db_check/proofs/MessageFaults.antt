@@ -19,7 +19,8 @@ use Rattle.db_check.specs.OfSignals.{AreClean, IsFirstOfSignals}
 use Rattle.db_check.specs.OfMessage.{Shows, Has, IsCleanMessage, IsFirstOfMessage}
 use Rattle.db_check.specs.OfMessages.{IsCleanAt, entry_of, frame_of, HavePassed, IsFirstOfMessages}
 use Rattle.db_check.proofs.KindOrder.{NoneBelow, none_yet, nor, least, own_kind}
-use Rattle.db_check.proofs.Elements.{and_some, some_if, take_one, any_named}
+use Rattle.can_model.proofs.Elements.{and_some, some_if}
+use Rattle.db_check.proofs.Elements.{take_one, any_named}
 
 -- ---- the least kind
 

@@ -7,7 +7,7 @@ use Rattle.can_model.specs.declared.database.Database.{Database}
 use Rattle.can_model.specs.declared.database.Message.{Message}
 use Rattle.can_model.specs.declared.database.Signal.{Signal}
 use Rattle.can_model.specs.declared.check_kind.CheckKind.TheVariants.{TooMany}
-use Rattle.db_check.proofs.Elements.{some_and}
+use Rattle.can_model.proofs.Elements.{some_and}
 use Rattle.db_check.proofs.KindOrder.{same_kind}
 use Rattle.db_check.specs.Answer.{fault_of}
 use Rattle.db_check.specs.declared.refusal.CheckFault.{CheckFault}

@@ -18,7 +18,8 @@ use Rattle.db_check.specs.Kinds.{IsClean, IsLeast}
 use Rattle.db_check.specs.OfSignal.{Shows, HasTaken}
 use Rattle.db_check.specs.OfSignals.{IsPlain, IsCleanAt, AreClean, IsTaken, entry_of, HavePassed, IsFirstOfSignals}
 use Rattle.db_check.proofs.KindOrder.{own_kind}
-use Rattle.db_check.proofs.Elements.{some_and, and_some, if_some, some_if, all_at, take_one, any_named}
+use Rattle.can_model.proofs.Elements.{some_and, and_some, if_some, some_if, all_at}
+use Rattle.db_check.proofs.Elements.{take_one, any_named}
 use Rattle.db_check.proofs.TakenPlaces.{starts}
 
 -- ---- signals that are not multiplexed

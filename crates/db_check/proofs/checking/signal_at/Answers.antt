@@ -1,6 +1,6 @@
 use Rattle.std.proofs.Common.{◌≡◌, ◌<◌, ◌≤◌, length, Some, refl, sym, ap, ◌∙◌, arith}
 use Rattle.std.specs.Prelude.{slice_get}
-use Rattle.db_check.proofs.Elements.{element_at}
+use Rattle.can_model.proofs.Elements.{element_at}
 use Rattle.db_check.proofs.AllSignals.{of_message, of_later}
 use Rattle.db_check.proofs.checking.signal_at.Goals as goal
 

@@ -5,7 +5,7 @@ use Rattle.std.proofs.lemmas.Result.{err_from_is_err_and}
 use Rattle.cg_out.specs.Words.{look_up}
 use Rattle.can_model.specs.declared.check_kind.CheckKind.TheVariants.{MessageTooLong}
 use Rattle.db_check.specs.Answer.{fault_of}
-use Rattle.db_check.proofs.Elements.{element_at}
+use Rattle.can_model.proofs.Elements.{element_at}
 use Rattle.db_check.proofs.MessageFaults.{unnamed, passes, same_test, new_frame, not_too_long, first_own, first_of_its_signals, all_passed}
 use Rattle.db_check.proofs.messages.check_messages.Goals as goal
 

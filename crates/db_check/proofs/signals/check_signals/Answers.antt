@@ -1,6 +1,6 @@
 use Rattle.std.proofs.Common.{◌≡◌, ◌<◌, ◌≤◌, length, refl, ap, ◌∙◌, arith}
 use Rattle.cg_out.specs.Words.{look_up}
-use Rattle.db_check.proofs.Elements.{element_at}
+use Rattle.can_model.proofs.Elements.{element_at}
 use Rattle.db_check.proofs.SignalFaults.{unnamed, bits, places_inside, start_inside, passes, first_of_signals, all_passed}
 use Rattle.db_check.proofs.signals.check_signals.Goals as goal
 

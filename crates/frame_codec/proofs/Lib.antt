@@ -1,0 +1,4 @@
+pub mod SingleBits
+pub mod Putting
+pub mod Getting
+pub mod OneFrame

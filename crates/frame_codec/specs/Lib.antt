@@ -1,0 +1,3 @@
+-- What the functions inside promise each other.
+pub mod Ones
+pub mod Reads
