@@ -9,7 +9,7 @@ use Rattle.std.proofs.lemmas.List.Sums.{fails_before_first}
 use Rattle.c_tree.specs.declared.item.Field.{Field}
 use Rattle.c_mem.specs.Cells.{CellsOf}
 use Rattle.c_widths.specs.DataModel.{DataModel}
-use Rattle.exec_words.specs.CutWord.{cut_at}
+use Rattle.command_words.specs.CutWord.{cut_at}
 use Rattle.exec_words.specs.StructWord.{with_part, with_parts, parts_of}
 
 -- what is cut at a sign, and the parts of what stands behind it

@@ -9,7 +9,7 @@ use Rattle.c_widths.specs.IntegerType.{type_of}
 use Rattle.cg_out.specs.Words.{or_else}
 use Rattle.exec_words.specs.declared.argument.Argument.{Argument}
 use Rattle.exec_words.specs.declared.argument.Argument.TheVariants as argument
-use Rattle.exec_words.specs.CutWord.{behind}
+use Rattle.command_words.specs.CutWord.{behind}
 use Rattle.exec_words.specs.NumberWord.{number_of}
 use Rattle.exec_words.specs.ObjectWord.{object_in}
 

@@ -1,5 +1,4 @@
 -- What the promises rest on.
-pub mod CutWord
 pub mod NumberWord
 pub mod StructWord
 pub mod ObjectWord

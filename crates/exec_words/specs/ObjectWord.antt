@@ -9,8 +9,8 @@ use Rattle.c_mem.specs.declared.objects.Object.{Object}
 use Rattle.c_mem.specs.declared.objects.Object.TheVariants.{Bytes, Fields}
 use Rattle.c_widths.specs.DataModel.{DataModel}
 use Rattle.cg_out.specs.Words.{or_else, look_up}
-use Rattle.exec_words.specs.CutWord.{behind}
-use Rattle.exec_words.specs.NumberWord.{number_in}
+use Rattle.command_words.specs.CutWord.{behind}
+use Rattle.command_words.specs.NumberWord.{number_in}
 use Rattle.exec_words.specs.StructWord.{cells_in}
 
 -- ---- objects of bytes

@@ -7,7 +7,7 @@ use Rattle.c_mem.specs.Cells.{CellsOf}
 use Rattle.c_widths.specs.DataModel.{DataModel}
 use Rattle.c_types.specs.ExpressionTypes.{integer_type}
 use Rattle.c_types.specs.FieldNamed.{field_named}
-use Rattle.exec_words.specs.CutWord.{cut_at}
+use Rattle.command_words.specs.CutWord.{cut_at}
 use Rattle.exec_words.specs.NumberWord.{number_of}
 
 -- the cell has its value now, where it had none

@@ -6,17 +6,17 @@ ghost use Rattle.c_types.specs.Setting.{structs};
 ghost use Rattle.c_widths.specs.DataModel.{IsModel, model_of};
 ghost use Rattle.cg_out.specs.Words.{or_else};
 ghost use Rattle.exec_words.specs.ArgumentWord as spec;
-ghost use Rattle.exec_words.specs.CutWord as cut;
+ghost use Rattle.command_words.specs.CutWord as cut;
 ghost use Rattle.exec_words.specs.NumberWord as numbers;
 ghost use Rattle.exec_words.specs.ObjectWord as objects;
 
-use crate::cutting::behind;
 use crate::number::number_of;
 use crate::object::object_in;
 use c_mean::{CType, Target};
 use c_mem::Object;
 use c_types::TypedUnit;
 use cg_out::Memory;
+use command_words::behind;
 use std::alloc::Global;
 
 /// What a word gives a parameter.

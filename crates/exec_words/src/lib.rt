@@ -8,7 +8,6 @@
 #![tactic(auto)]
 
 mod argument;
-mod cutting;
 mod number;
 mod object;
 mod reporting;

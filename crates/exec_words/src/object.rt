@@ -4,16 +4,15 @@ ghost use Rattle.std.specs.Option.{option_and_then};
 ghost use Rattle.c_types.specs.Setting.{structs};
 ghost use Rattle.c_widths.specs.DataModel.{IsModel, model_of};
 ghost use Rattle.cg_out.specs.Words.{look_up};
-ghost use Rattle.exec_words.specs.CutWord as cut;
+ghost use Rattle.command_words.specs.CutWord as cut;
 ghost use Rattle.exec_words.specs.ObjectWord as spec;
 
-use crate::cutting::behind;
-use crate::number::number_in;
 use crate::structure::cells_in;
 use c_mean::Target;
 use c_mem::{Cells, Object};
 use c_types::TypedUnit;
 use cg_out::{Memory, Text};
+use command_words::{behind, number_in};
 use hex::FromHexError;
 use std::alloc::{AllocError, Global};
 

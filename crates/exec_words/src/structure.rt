@@ -8,12 +8,12 @@ ghost use Rattle.c_widths.specs.DataModel.{IsModel, model_of};
 ghost use Rattle.cg_out.specs.Words.{look_up};
 ghost use Rattle.exec_words.specs.StructWord as spec;
 
-use crate::cutting::cut_at;
 use crate::number::number_of;
 use c_mean::Field;
 use c_mem::Cells;
 use c_types::TypedUnit;
 use cg_out::Memory;
+use command_words::cut_at;
 use std::alloc::Global;
 
 /// The cells that a word gives the struct of a tag, where the unit has that struct and the word is

@@ -1,6 +1,6 @@
 use Rattle.std.proofs.Common.{rules, ◌∙◌}
-use Rattle.exec_words.proofs.Digits.{parsed_whole, digits_utf8}
-use Rattle.exec_words.proofs.number.whole_in.Goals as goal
+use Rattle.command_words.proofs.Digits.{parsed_whole, digits_utf8}
+use Rattle.command_words.proofs.number.whole_in.Goals as goal
 
 pub returns-in-Ok : goal.returns-in-Ok
 returns-in-Ok c =

@@ -3,7 +3,7 @@ use Rattle.std.proofs.Common.{◌≡◌, ℕ, ◌+◌, ◌==◌, Bool, true, fal
 use Rattle.std.specs.Borrow.{Bor}
 use Rattle.std.specs.Option.{option_map, MatchOption}
 use lib.Pointwise.{pointwise}
-use Rattle.exec_words.specs.CutWord.{behind}
+use Rattle.command_words.specs.CutWord.{behind}
 
 -- the list begins so
 abbrev pub begins : List ℕ → List ℕ → Bool

@@ -1,0 +1,3 @@
+-- What the promises rest on.
+pub mod CutWord
+pub mod NumberWord
