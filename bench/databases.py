@@ -3,8 +3,9 @@
 
 Prints the bytes of each text, the seconds, the peak memory and how many times the text that is, and how fast the time
 grows (an exponent of 1 is linear): with few and with many signals a message, with a comment, an attribute and choices
-for each signal, with names that are long and alike, and with many statements that speak of one signal. Beside it,
-where python3-canmatrix is there, the time in which that loads the same file. Build the program first (./run).
+for each signal, with names that are long and alike or have one identifier, and with many statements that speak of one
+signal; and those of `encode` and `decode` beside reading and checking alone. Beside it, where python3-canmatrix is there,
+the time in which that loads the same file. Build the program first (./run).
 """
 import importlib.util
 import os
@@ -18,16 +19,26 @@ RUNS = 3
 LOAD = "import sys, canmatrix.formats as f; f.loadp_flat(sys.argv[1])"
 
 
-def names(count, alike):
-    """Names of signals, short or of 60 bytes that differ at their end alone."""
-    return [f"{'A' * 52}{i:08d}" if alike else f"Signal{i}" for i in range(count)]
+def short(i):
+    """A name of a few bytes."""
+    return f"Signal{i}"
 
 
-def database(count, a_message, rich=False, alike=False):
+def alike(i):
+    """A name of 60 bytes that differs at its end alone."""
+    return f"{'A' * 52}{i:08d}"
+
+
+def one_identifier(i):
+    """A name whose identifier is that of all others of its kind: one line or two between its letters."""
+    return "a" + "".join("__b" if i >> k & 1 else "_b" for k in range(15))
+
+
+def database(count, a_message, rich=False, name_of=short):
     """The lines of a text of so many signals of 4 bits, so many a message, each with what is said of it if asked."""
     yield 'VERSION ""'
     yield "BU_: X Y"
-    all_names = names(count, alike)
+    all_names = [name_of(i) for i in range(count)]
     for first in range(0, count, a_message):
         of_message = all_names[first : first + a_message]
         yield f"BO_ {2147483648 + first // a_message} Message{first // a_message}: {(len(of_message) + 1) // 2} X"
@@ -52,7 +63,8 @@ SHAPES = {
     "8 signals a message": ((1024, 32768), lambda n: database(n, 8)),
     "4,096 signals a message": ((4096, 32768), lambda n: database(n, 4096)),
     "with comments, start values and choices": ((1024, 32768), lambda n: database(n, 8, rich=True)),
-    "names that are long and alike": ((1024, 32768), lambda n: database(n, 8, alike=True)),
+    "names that are long and alike": ((1024, 32768), lambda n: database(n, 8, name_of=alike)),
+    "names of one identifier": ((1024, 32768), lambda n: database(n, 4096, name_of=one_identifier)),
     "statements of one signal": ((12500, 400000), of_one_signal),
 }
 
@@ -70,12 +82,29 @@ def row(folder, name, lines):
     return size, run.used
 
 
+def print_codec(a_message):
+    """The seconds of `encode` and `decode` of one message of 32,768 signals, beside reading and checking alone."""
+    with tempfile.TemporaryDirectory() as folder:
+        path = os.path.join(folder, "bench.dbc")
+        with open(path, "w", encoding="ascii") as f:
+            f.writelines(line + "\n" for line in database(32768, a_message))
+        words = [f"{short(i)}={i % 16}" for i in range(a_message)]
+        frame = "5a" * ((a_message + 1) // 2)
+        # Without such a message nothing is done behind the check.
+        alone = measure([PROGRAM, "encode", path, "Nope"], folder, RUNS, 2).used
+        encode = measure([PROGRAM, "encode", path, "Message0", *words], folder, RUNS).used
+        decode = measure([PROGRAM, "decode", path, str(2**31), frame], folder, RUNS).used
+        print(f"checked {alone:.4f}, encode {encode:.4f}, decode {decode:.4f}   {a_message} signals a message")
+
+
 def main():
     want_program()
     print(f"{'bytes':>10} {'seconds':>9} {'peak MB':>9} {'times':>7} {'canmatrix':>10}")
     for name, (counts, text) in SHAPES.items():
         with tempfile.TemporaryDirectory() as folder:
             print_exponent(row(folder, name, text(n)) for n in counts)
+    for a_message in (8, 4096):
+        print_codec(a_message)
 
 
 main()

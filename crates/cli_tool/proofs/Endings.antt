@@ -3,7 +3,7 @@ use Rattle.std.proofs.Common.{◌≡◌, inl, inr, ℕ, ◌+◌, ◌<◌, true, 
 use Rattle.std.specs.declared.option.Option.{Option}
 use Rattle.cg_out.specs.Outside.{Folder, FilesSeen, SinkSeen, IfTold, IsTornWrite}
 use Rattle.cli_tool.specs.World.{World, world}
-use Rattle.cli_tool.specs.Command.{Command, generate_c_source, check, exec}
+use Rattle.cli_tool.specs.Command.{Command, generate_c_source, check, exec, encode, decode}
 use Rattle.cli_tool.specs.Ends.{task_of}
 use Rattle.cli_tool.specs.Task.{Task, Answer, wrong_words, refused, outcome, no_task, status_of, outputs_of, report_of, Gives}
 use Rattle.cli_tool.specs.Report.{usage_report}
@@ -72,6 +72,8 @@ pub reads_some : (command : Command) → 0 < length (task_of command).inputs
 reads_some (generate_c_source file) = omega arith
 reads_some (check header source) = omega arith
 reads_some (exec header source model function words) = omega arith
+reads_some (encode file message words) = omega arith
+reads_some (decode file number digits) = omega arith
 
 -- memory was wanting for the answer
 pub unanswered : (task : Task) (texts : List (List ℕ)) (old mid : FilesSeen) (out : SinkSeen) → 0 < length task.inputs → ReadsTexts task.inputs texts old mid → TaskEnds task (world old out) (world mid out) NoMemory

@@ -9,12 +9,12 @@ use Rattle.gen_unit.specs.Header.{header_text}
 use Rattle.cg_out.specs.Outside.{Folder, IfTold, IsTornWrite}
 use Rattle.cli_tool.specs.FileName.{database_name, header_path}
 use Rattle.db_text.specs.DatabaseOfText.{DatabaseRefusal, in_text, in_database}
-use Rattle.cli_tool.specs.HeaderInFile.{IsIn, twice_named, header_output, header_answer, database_answer, HasAnswer}
+use Rattle.cli_tool.specs.DatabaseInFile.{GivesDatabase, AnswersGiven, HasAnswer, database_input}
 use Rattle.cli_tool.specs.HeaderOfFile.{IsHeaderOf, OfHeader, HeaderStands}
 use Rattle.cli_tool.specs.World.{World}
 use Rattle.cli_tool.specs.Report.{too_large_report}
 use Rattle.cli_tool.specs.Task.{Output, Answer, refused, outputs_of, status_of, are_within, Gives}
-use Rattle.cli_tool.specs.GenerateTask.{database_input, generate_task}
+use Rattle.cli_tool.specs.GenerateTask.{header_output, WritesHeader, generate_task}
 use Rattle.cli_tool.specs.Writing.{with_outputs, Puts}
 use Rattle.cli_tool.specs.TaskEnds.{TaskEnds}
 use Rattle.cli_tool.specs.declared.status.Status.{Status}
@@ -23,33 +23,29 @@ use Rattle.cli_tool.proofs.Texts.{IsSomeAnd-weaker}
 use Rattle.cli_tool.proofs.DatabaseMeaning.{database_declares}
 
 -- a text is refused and nothing is written, or its header is
-abbrev WritesHeader : List ℕ → List ℕ → Answer → Type 0
-WritesHeader file text answer = (header : List ℕ) × IsHeaderOf file text header × (outputs_of answer ≡ header_output file header ∷ [])
+abbrev PutsItsHeader : List ℕ → List ℕ → Answer → Type 0
+PutsItsHeader file text answer = (header : List ℕ) × IsHeaderOf file text header × (outputs_of answer ≡ header_output file header ∷ [])
 
 abbrev WritesNothing : Answer → Type 0
 WritesNothing answer = (outputs_of answer ≡ []) × (status_of answer ≡ Refused)
 
 abbrev MayWrite : List ℕ → List ℕ → Answer → Type 0
-MayWrite file text answer = WritesNothing answer ⊎ WritesHeader file text answer
+MayWrite file text answer = WritesNothing answer ⊎ PutsItsHeader file text answer
 
 module _ (file text : List ℕ) (answer : Answer) where
-  by_names : (db : Database) (twice : Option ℕ) → IsIn file text (Ok db) → twice_named [] db.messages ≡ twice → MayWrite file text (header_answer file db twice)
-  by_names db (Some line) is_in e = inl (refl, refl)
-  by_names db None is_in e = inr (
-    header_text (database_name file) db.messages,
-    record { db = db; database_is = is_in; named_apart = e; bytes = refl; meaning = database_declares file text db is_in e },
+  by_given : (given : Result Database DatabaseRefusal) → GivesDatabase file text given → AnswersGiven (WritesHeader file) given answer → MayWrite file text answer
+  by_given (Ok db) is_in (names, are, e) = subst (λ (a : Answer). MayWrite file text a) (sym e) (inr (
+    header_text db.messages names,
+    record { db = db; database_is = is_in; names = names; names_are = are; bytes = refl; meaning = database_declares file text db names is_in are },
     refl,
-  )
-
-  by_given : (given : Result Database DatabaseRefusal) → IsIn file text given → MayWrite file text (database_answer file given)
-  by_given (Ok db) is_in = by_names db (twice_named [] db.messages) is_in refl
-  by_given (Err (in_text refusal)) is_in = inl (refl, refl)
-  by_given (Err (in_database fault)) is_in = inl (refl, refl)
+  ))
+  by_given (Err (in_text refusal)) is_in e = subst (λ (a : Answer). MayWrite file text a) (sym e) (inl (refl, refl))
+  by_given (Err (in_database fault)) is_in e = subst (λ (a : Answer). MayWrite file text a) (sym e) (inl (refl, refl))
 
   may_write : Gives (generate_task file) (text ∷ []) answer → MayWrite file text answer
   may_write g = by_size (are_within (database_input file ∷ []) (text ∷ [])) g where
-    by_size : (b : Bool) → MatchBool b (HasAnswer file text answer) (answer ≡ refused too_large_report) → MayWrite file text answer
-    by_size true (given, is_in, e) = subst (λ (a : Answer). MayWrite file text a) (sym e) (by_given given is_in)
+    by_size : (b : Bool) → MatchBool b (HasAnswer (WritesHeader file) file text answer) (answer ≡ refused too_large_report) → MayWrite file text answer
+    by_size true (given, is_in, e) = by_given given is_in e
     by_size false e = subst (λ (a : Answer). MayWrite file text a) (sym e) (inl (refl, refl))
 
 -- where the text is told, this is its answer
@@ -73,7 +69,7 @@ module _ (file : List ℕ) (answer : Answer) where
   no_more b [] e = absurd cc
   no_more b (o ∷ os) e = e
 
-  put : (text : List ℕ) (a b : Folder) → Puts (outputs_of answer) (Some a) (Some b) → WritesHeader file text answer → (header : List ℕ) × IsHeaderOf file text header × PutsHeader header a b
+  put : (text : List ℕ) (a b : Folder) → Puts (outputs_of answer) (Some a) (Some b) → PutsItsHeader file text answer → (header : List ℕ) × IsHeaderOf file text header × PutsHeader header a b
   put text a b p w = (w.0, w.1, subst (λ (os : List Output). Puts os (Some a) (Some b)) w.2 p)
 
   may_put : (old new : Option Folder) → OfAnswer file answer old → Puts (outputs_of answer) old new → ((new ≡ old) × (status_of answer ≡ Refused)) ⊎ OfHeaderAt file old new PutsHeader

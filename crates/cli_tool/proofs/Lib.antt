@@ -1,4 +1,3 @@
-pub mod OwnNames
 pub mod DatabaseMeaning
 pub mod Texts
 pub mod Cut

@@ -1,5 +1,5 @@
 -- Texts that are read one after another.
-use Rattle.std.proofs.Common.{◌≡◌, ◌⊎◌, inl, inr, ℕ, zero, suc, ◌+◌, ◌<◌, ◌≤◌, List, [], ◌∷◌, ◌++◌, length, take, drop, slice_get, refl, ap, subst, ◌∙◌, arith, length-take, length-append}
+use Rattle.std.proofs.Common.{◌≡◌, ◌⊎◌, inl, inr, ℕ, zero, suc, ◌+◌, ◌<◌, ◌≤◌, List, [], ◌∷◌, ◌++◌, length, take, drop, slice_get, refl, sym, ap, subst, ◌∙◌, arith, length-take, length-append}
 use Rattle.std.specs.Prelude.{IfSome, IsSomeAnd}
 use Rattle.std.specs.declared.option.Option.{Option}
 use Rattle.std.specs.declared.option.Option.TheVariants.{None, Some}
@@ -59,6 +59,15 @@ reads_more inputs n i texts text old mid new r e h le = rw (take_more inputs n i
   calls = calls_sum old.calls mid.calls new.calls (length (take n inputs)) 1 _ (length-append (take n inputs) (i ∷ [])) r.calls h.calls;
   later = omega (arith, r.later, le);
 }
+
+-- the same, with a count beside it
+pub reads_one_more : (inputs : List Input) (n : ℕ) (i : Input) (texts longer : List (List ℕ)) (text : List ℕ) (old mid new : FilesSeen) → n ≡ length texts → longer ≡ texts ++ text ∷ [] → ReadsTexts (take (length texts) inputs) texts old mid
+    → slice_get inputs n ≡ Some i → ReadsText i text mid new → mid.faults ≤ new.faults → (length longer ≤ length inputs) × ReadsTexts (take (length longer) inputs) longer old new
+reads_one_more inputs n i texts longer text old mid new e is r at h le =
+    let at_end : slice_get inputs (length texts) ≡ Some i = ap (slice_get inputs) (sym e) ∙ at in
+    let size : length longer ≡ length texts + 1 = ap length is ∙ length-append texts (text ∷ []) in
+    let all : ReadsTexts (take (length texts + 1) inputs) (texts ++ text ∷ []) old new = reads_more inputs (length texts) i texts text old mid new r at_end h le in
+    (omega (arith, size, is_within inputs (length texts) i at_end), subst (λ (k : ℕ). ReadsTexts (take k inputs) longer old new) (sym size) (subst (λ (xs : List (List ℕ)). ReadsTexts (take (length texts + 1) inputs) xs old new) (sym is) all))
 
 pub reads_all : (inputs : List Input) (texts : List (List ℕ)) (n : ℕ) (old mid : FilesSeen) → ReadsTexts (take n inputs) texts old mid → slice_get inputs n ≡ None → ReadsTexts inputs texts old mid
 reads_all inputs texts n old mid r e = subst (λ (is : List Input). ReadsTexts is texts old mid) (take_all n inputs (is_past inputs n e)) r

@@ -1,5 +1,5 @@
 -- The values of the code, as the definitions speak of them.
-use Rattle.cli_tool.specs.Command.{Command, generate_c_source, check, exec}
+use Rattle.cli_tool.specs.Command.{Command, generate_c_source, check, exec, encode, decode}
 use Rattle.cli_tool.specs.Task.{Task, Answer, wrong_words, refused, outcome}
 use Rattle.cli_tool.specs.Ends.{task_of}
 use Rattle.cli_tool.specs.declared.command.Command.{Command as Found}
@@ -18,6 +18,8 @@ abbrev pub asked_by : Found → Command
 asked_by (found.GenerateCSource file) = generate_c_source file.now
 asked_by (found.Check header source) = check header.now source.now
 asked_by (found.Exec c) = exec c.header.now c.source.now (model_by c.model) c.function.now c.words.now
+asked_by (found.Encode e) = encode e.file.now e.message.now e.words.now
+asked_by (found.Decode d) = decode d.file.now d.number.now d.digits.now
 
 -- its task
 abbrev pub task_by : Found → Task

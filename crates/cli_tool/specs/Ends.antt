@@ -3,11 +3,12 @@ use Rattle.std.specs.Prelude.{ℕ, List}
 use Rattle.std.specs.declared.option.Option.{Option}
 use Rattle.std.specs.declared.option.Option.TheVariants.{None, Some}
 use Rattle.cli_tool.specs.World.{World}
-use Rattle.cli_tool.specs.Command.{Command, generate_c_source, check, exec, command_of}
+use Rattle.cli_tool.specs.Command.{Command, generate_c_source, check, exec, encode, decode, command_of}
 use Rattle.cli_tool.specs.Task.{Task, no_task}
 use Rattle.cli_tool.specs.GenerateTask.{generate_task}
 use Rattle.cli_tool.specs.CheckTask.{check_task}
 use Rattle.cli_tool.specs.ExecTask.{exec_task}
+use Rattle.cli_tool.specs.CodecTasks.{encode_task, decode_task}
 use Rattle.cli_tool.specs.TaskEnds.{TaskEnds}
 use Rattle.cli_tool.specs.MustCome.{MustCome}
 use Rattle.cli_tool.specs.HeaderOfFile.{HeaderStands}
@@ -17,6 +18,8 @@ abbrev pub task_of : Command → Task
 task_of (generate_c_source file) = generate_task file
 task_of (check header source) = check_task header source
 task_of (exec header source model function words) = exec_task header source model function words
+task_of (encode file message words) = encode_task file message words
+task_of (decode file number digits) = decode_task file number digits
 
 abbrev pub task_found : Option Command → Task
 task_found None = no_task

@@ -1,17 +1,14 @@
 -- What the name of a file says: the name of its database, and the kind of its text.
-use Rattle.std.specs.Prelude.{ℕ, ◌-◌, Bool, not, ◌==◌, nat_lt, if◌then◌else◌, List, ◌++◌, map, drop, length, codes}
-use Rattle.std.specs.List.{after_last, before_last, suffix_len}
+use Rattle.std.specs.Prelude.{ℕ, ◌-◌, Bool, ◌==◌, nat_lt, if◌then◌else◌, List, ◌++◌, map, drop, length, codes}
+use Rattle.std.specs.List.{after_last, before_last}
 use Rattle.std.specs.Str.{bytes_eq}
 use Rattle.std.specs.Char.{to_ascii_lowercase}
+use Rattle.command_words.specs.CutWord.{up_to_last}
 use Rattle.name_rules.specs.Identifier.{identifier_of}
 
 -- the bytes after the last `/`, or all
 abbrev pub base_name : List ℕ → List ℕ
 base_name path = after_last (λ b. b == 47) path
-
--- how many bytes stand up to and with the last of these, 0 where there is none
-abbrev pub up_to_last : ℕ → List ℕ → ℕ
-up_to_last mark bytes = length bytes - suffix_len (λ b. not (b == mark)) bytes
 
 -- the bytes before the last `.`, or all where there is none or it is the first byte
 abbrev pub stem_of : List ℕ → List ℕ

@@ -1,22 +1,25 @@
 -- The header of the database in a file, and where it stands.
-use Rattle.std.specs.Prelude.{◌≡◌, ◌⊎◌, ℕ, List, [], Ok, None, IsSomeAnd}
+use Rattle.std.specs.Prelude.{◌≡◌, ◌⊎◌, ℕ, false, List, Ok, IsSomeAnd}
 use Rattle.std.specs.FinMap.{get, insert}
 use Rattle.cg_out.specs.Outside.{Folder, FilesSeen, IfTold, IsTornWrite}
 use Rattle.can_model.specs.declared.database.Database.{Database}
+use Rattle.name_rules.specs.declared.table.SymbolTable.{SymbolTable}
+use Rattle.name_rules.specs.Symbols.{AreSymbols}
 use Rattle.gen_unit.specs.Header.{header_text}
 use Rattle.gen_unit.specs.HeaderMeaning.{DeclaresConstants}
 use Rattle.cli_tool.specs.FileName.{database_name, header_path}
-use Rattle.cli_tool.specs.HeaderInFile.{IsIn, twice_named}
+use Rattle.cli_tool.specs.DatabaseInFile.{GivesDatabase}
 use Rattle.cli_tool.specs.declared.status.Status.{Status}
 use Rattle.cli_tool.specs.declared.status.Status.TheVariants.{Done, FileFault, OutFault}
 
--- whose it is, its bytes, and what they say as C
+-- whose it is, its names and bytes, and what they say as C
 pub record IsHeaderOf (file text header : List ℕ) : Type 0 where
   pub db : Database
-  pub database_is : IsIn file text (Ok db)
-  pub named_apart : twice_named [] db.messages ≡ None
-  pub bytes : header ≡ header_text (database_name file) db.messages
-  pub meaning : DeclaresConstants (database_name file) db.messages header
+  pub database_is : GivesDatabase file text (Ok db)
+  pub names : SymbolTable
+  pub names_are : AreSymbols db (database_name file) false names
+  pub bytes : header ≡ header_text db.messages names
+  pub meaning : DeclaresConstants (database_name file) db.messages names header
 
 -- where the contents are told, the file's text has a header of which this is so, with the contents before and after
 abbrev pub OfHeader : List ℕ → FilesSeen → FilesSeen → (List ℕ → Folder → Folder → Type 0) → Type 0

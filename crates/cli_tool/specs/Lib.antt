@@ -2,7 +2,7 @@
 pub mod FileName
 pub mod Report
 pub mod Status
-pub mod HeaderInFile
+pub mod DatabaseInFile
 pub mod Task
 pub mod World
 pub mod Reading
@@ -16,6 +16,8 @@ pub mod GenerateTask
 pub mod CheckTask
 pub mod CallArguments
 pub mod ExecTask
+pub mod CodecTasks
 pub mod Ends
 -- What the functions inside promise each other.
 pub mod Asked
+pub mod FoundDatabase

@@ -5,11 +5,11 @@ ghost use Rattle.c_widths.specs.DataModel.{IsModel, model_of};
 ghost use Rattle.c_types.specs.Setting.{structs};
 ghost use Rattle.cli_tool.specs.CallArguments as spec;
 
-use crate::word::Word;
 use c_exec::{Arg, Object, Pointer};
 use c_mean::Field;
 use c_types::TypedUnit;
 use cg_out::{List, Memory};
+use command_words::Word;
 use exec_words::{Argument, argument_of};
 use std::alloc::Global;
 use std::marker::Model;

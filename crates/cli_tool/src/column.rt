@@ -2,8 +2,8 @@
 ghost use Rattle.std.specs.Prelude.{◌≡◌, ◌≤◌, ◌+◌, not, ◌==◌, length, take};
 ghost use Rattle.std.specs.List.{suffix_len};
 
-use crate::naming::up_to_last_of;
 use c_lexer::SOURCE_LIMIT;
+use command_words::up_to_last_of;
 
 /// The column of the byte at the offset, counted in bytes from 1: how far it is behind the last
 /// line end before it.

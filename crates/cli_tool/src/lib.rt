@@ -9,8 +9,10 @@
 mod answer;
 mod arguments;
 mod checking;
+mod coding;
 mod column;
 mod command;
+mod database;
 mod executing;
 mod generating;
 mod naming;
@@ -19,10 +21,9 @@ mod reading;
 mod reporting;
 mod running;
 mod status;
-mod word;
 mod words;
 mod writing;
 
+pub use command_words::Word;
 pub use running::run;
 pub use status::Status;
-pub use word::Word;

@@ -1,24 +1,12 @@
 //! What the name of a file says.
-ghost use Rattle.std.specs.Prelude.{◌≡◌, ◌≤◌, ◌-◌, not, ◌==◌, length, drop, map, IfOk};
+ghost use Rattle.std.specs.Prelude.{◌≡◌, ◌-◌, length, drop, map, IfOk};
 ghost use Rattle.std.specs.Char.{to_ascii_lowercase};
-ghost use Rattle.std.specs.List.{suffix_len};
-ghost use Rattle.cli_tool.specs.FileName.{base_name, up_to_last, stem_of, database_name, header_path, is_sym};
+ghost use Rattle.cli_tool.specs.FileName.{base_name, stem_of, database_name, header_path, is_sym};
 
 use cg_out::{Memory, Text};
+use command_words::up_to_last_of;
 use name_rules::identifier;
 use std::alloc::Global;
-
-/// How many bytes stand up to and with the last that equals the mark.
-pub fn up_to_last_of(mark: u8, bytes: &[u8]) -> usize
-    ensures value { result ≡ up_to_last mark bytes.now }
-    ensures within { result ≤ length bytes.now }
-{
-    let mut end = bytes.len();
-    while end > 0 && bytes[end - 1] != mark {
-        end -= 1;
-    }
-    end
-}
 
 /// The name of a file without its folders.
 pub fn base(path: &[u8]) -> &[u8]

@@ -5,9 +5,9 @@ ghost use Rattle.cli_tool.specs.Ends.{Ends, Comes, IsHeader};
 use crate::performing::{perform, report};
 use crate::reporting::usage;
 use crate::status::Status;
-use crate::word::Word;
 use crate::words::found;
 use cg_out::{Files, Sink};
+use command_words::Word;
 use std::alloc::Global;
 
 /// Runs the command that the words (the command line without the program's name) are, over these

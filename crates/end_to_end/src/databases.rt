@@ -8,7 +8,7 @@ use std::process::Abort;
 use std::test::Fail;
 
 /// An ordinary editor file, with statements of which nothing is kept.
-const TRUCK: &str = "VERSION \"\"
+pub(super) const TRUCK: &str = "VERSION \"\"
 
 NS_ :
 \tNS_DESC_
@@ -34,7 +34,7 @@ BA_DEF_DEF_  \"GenMsgCycleTime\" 0;
 BA_ \"GenMsgCycleTime\" BO_ 2364540158 100;
 ";
 
-const EXAMPLE: &str = r#"VERSION "1"
+pub(super) const EXAMPLE: &str = r#"VERSION "1"
 BU_: ECU
 BO_ 496 Example: 8 ECU
  SG_ Enable : 7|1@0+ (1,0) [0|0] "-" ECU
@@ -42,7 +42,7 @@ BO_ 496 Example: 8 ECU
  SG_ Temperature : 0|12@0- (0.01,250) [229.52|270.47] "degK" ECU
 "#;
 
-const EXAMPLE_CHOICES: &str = r#"VAL_ 496 Enable 1 "Enabled" 0 "Disabled" ;
+pub(super) const EXAMPLE_CHOICES: &str = r#"VAL_ 496 Enable 1 "Enabled" 0 "Disabled" ;
 "#;
 
 /// The second comment of the message counts, whose second line is shown behind a `.`.
@@ -67,6 +67,26 @@ const HEADERS: &[(&str, &[&str], &str)] = &[
 #define TRUCK_EEC1_FRAME_ID (0xcf004feu)
 #define TRUCK_EEC1_LENGTH (8u)
 #define TRUCK_EEC1_IS_EXTENDED (1)
+",
+    ),
+    (
+        "edge",
+        &["BO_ 1 AB: 1 X\nBO_ 2 Ab: 2 X\nBO_ 3 aB: 3 X"],
+        "
+/* Message AB */
+#define EDGE_AB_FRAME_ID (0x1u)
+#define EDGE_AB_LENGTH (1u)
+#define EDGE_AB_IS_EXTENDED (0)
+
+/* Message Ab */
+#define EDGE_AB_FRAME_ID_2 (0x2u)
+#define EDGE_AB_LENGTH_2 (2u)
+#define EDGE_AB_IS_EXTENDED_2 (0)
+
+/* Message aB */
+#define EDGE_A_B_FRAME_ID (0x3u)
+#define EDGE_A_B_LENGTH (3u)
+#define EDGE_A_B_IS_EXTENDED (0)
 ",
     ),
     (
@@ -278,15 +298,8 @@ const FAULTS: Texts = &[
         "refused 4 Unexpected line 2",
     ),
     ("BO_ 1 A: 8 X\n SG_ M : 0|8@1+~", "a.h"),
-    // Messages of one identifier are not told apart yet.
-    (
-        "BO_ 1 AB: 1 X BO_ 2 Ab: 1 X BO_ 3 aB: 1 X",
-        "refused 25 NotYet line 1",
-    ),
-    (
-        "BO_ 1 aB: 8 X\nBO_ 2 Ab: 8 X\nBO_ 3 A_B: 8 X",
-        "refused 25 NotYet line 3",
-    ),
+    // Messages of one identifier are no fault.
+    ("BO_ 1 aB: 8 X\nBO_ 2 Ab: 8 X\nBO_ 3 A_B: 8 X", "a.h"),
     // Long names are the ones that are compared and told, and bytes of them that are not seen.
     (
         "BO_ 1 A: 8 X\nBO_ 2 B: 8 X\nBA_ \"SystemMessageLongSymbol\" BO_ 2 \"A\";",

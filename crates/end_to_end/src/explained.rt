@@ -71,7 +71,19 @@ const NOTES: &[(&str, &[u8], &[u8], &str)] = &[
         "t.c:2:0: this function does not take these arguments",
     ),
     ("check in/h.h t.c", b"", b"", ""),
-    ("decode t.c 497 00", b"", b"", ""),
+    (
+        "decode t.c 497 00",
+        b"",
+        b"",
+        "t.c:0:0: no message has this number",
+    ),
+    (
+        "encode t.c A S=2 T",
+        b"",
+        b"\nBO_ 1 A: 8 X",
+        "t.c:2:0: these words are no values of the signals of this message",
+    ),
+    ("decode t.c 497 0", b"", b"", ""),
 ];
 
 #[test]

@@ -6,6 +6,8 @@
 #[cfg(test)]
 mod checks;
 #[cfg(test)]
+mod codec;
+#[cfg(test)]
 mod databases;
 #[cfg(test)]
 mod executions;

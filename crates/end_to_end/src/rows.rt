@@ -119,7 +119,10 @@ const WRONG_WORDS: &[&str] = &[
     "generate_c_source can.dbc can.dbc",
     "generate can.dbc",
     "can.dbc generate_c_source",
-    "decode example.dbc 497 00",
+    "encode can.dbc",
+    "encode can.dbc Nope",
+    "decode can.dbc 497 00",
+    "decode can.dbc 291 0",
 ];
 
 /// The database, and the header of an earlier run.

@@ -1,4 +1,5 @@
 pub mod PartLines
+pub mod InPairs
 pub mod HeaderLines
 pub mod NewMacros
 pub mod Meaning

@@ -2,7 +2,7 @@
 use Rattle.std.proofs.Common.{◌≡◌, ℕ, true, false, List, [], ◌∷◌, ◌++◌, map, Result, Ok, Err, refl, ap, ◌∙◌, arith}
 use Rattle.std.specs.Prelude.{codes}
 use Rattle.std.specs.declared.option.Option.TheVariants.{Some, None}
-use Rattle.std.specs.List.{AllByRecursion, flat_map}
+use Rattle.std.specs.List.{AllByRecursion, flat_map, zip}
 use Rattle.std.proofs.lemmas.Bool.Decides.{nat_tests}
 use Rattle.can_model.specs.declared.database.Message.{Message}
 use Rattle.name_rules.specs.IsIdentifier.{is_identifier_byte, IsIdentifier}
@@ -20,13 +20,16 @@ use Rattle.c_text.proofs.PrintedLines.{bytes-in_string, bytes-plain}
 use Rattle.c_text.proofs.HeaderLines.{quoted-line}
 use Rattle.c_text.proofs.TextLines.{AreLines, texts-lines}
 use Rattle.c_text.proofs.GuardedHeader.{guarded_header, guarded-left}
-use Rattle.gen_unit.specs.Header.{guard_of, header_parts, header_text}
-use Rattle.name_rules.specs.Distinct.{are_distinct}
+use Rattle.gen_unit.specs.Header.{header_parts, header_text}
+use Rattle.name_rules.specs.declared.table.SymbolTable.{SymbolTable}
+use Rattle.name_rules.specs.declared.table.MessageNames.{MessageNames}
+use Rattle.name_rules.specs.Names.{HasNamesApart}
+use Rattle.name_rules.proofs.NamesApart.{identifier-bytes}
 use Rattle.gen_unit.specs.HeaderMeaning.{Macro, number, constants_of, header_name, including, DeclaresConstants}
 use Rattle.gen_unit.specs.Small.{AreSmall}
 use Rattle.gen_unit.proofs.PartLines.{BareLine, parts-lines}
-use Rattle.gen_unit.proofs.HeaderLines.{all_macros, error_body, say-header, identifier-bytes}
-use Rattle.gen_unit.proofs.NewMacros.{ids, guard-error, macros-new}
+use Rattle.gen_unit.proofs.HeaderLines.{all_macros, error_body, say-header}
+use Rattle.gen_unit.proofs.NewMacros.{guard_name, macro_names, guard-error, macros-new}
 
 -- ---- the source
 
@@ -47,9 +50,10 @@ source-lines (b ∷ bs) h =
 
 -- ---- the macros
 
-kinds-macros : (name : List ℕ) (ms : List Message) → map named_kinds (all_macros name ms) ≡ flat_map (constants_of name) ms
-kinds-macros name [] = refl
-kinds-macros name (m ∷ ms) = ap (λ (rest : List Macro). constants_of name m ++ rest) (kinds-macros name ms)
+kinds-macros : (ms : List Message) (ns : List MessageNames) → map named_kinds (all_macros ms ns) ≡ flat_map (λ p. constants_of p.0 p.1) (zip ms ns)
+kinds-macros [] ns = refl
+kinds-macros (m ∷ ms) [] = refl
+kinds-macros (m ∷ ms) (n ∷ ns) = ap (λ (rest : List Macro). constants_of m n ++ rest) (kinds-macros ms ns)
 
 -- ---- what is left
 
@@ -64,19 +68,19 @@ left-is (Ok left) b e =
     (left, refl, ap (λ (x : BareLeft). x.tokens) same, ap (λ (x : BareLeft). x.macros) same)
 left-is (Err f) b e = absurd cc
 
-pub header-declares : (name : List ℕ) (ms : List Message) → IsIdentifier name → AreSmall ms → are_distinct (ids ms) ≡ true → DeclaresConstants name ms (header_text name ms)
-header-declares name ms h s d =
-    let g = guard_of name in
-    let ds = all_macros name ms in
+pub header-declares : (name : List ℕ) (ms : List Message) (t : SymbolTable) → IsIdentifier name → AreSmall ms → HasNamesApart t → DeclaresConstants name ms t (header_text ms t)
+header-declares name ms t h s a =
+    let g = t.guard in
+    let ds = all_macros ms t.messages in
     let hs : List BareLine = guarded_header g error_body ds in
-    let header : AreLines None (header_text name ms) hs = parts-lines (header_parts name ms) hs (say-header name ms h s) in
-    let bare : bare_preprocessed (preprocessed_texts (header_text name ms) (header_name name) (including name)) ≡ bare_left (Ok ([], (g, []) ∷ (codes "EINVAL", error_body) ∷ ds)) =
-    texts-lines (header_text name ms) (header_name name) (including name) hs (quoted ∷ []) header (source-lines name h)
-    ∙ ap bare_left (guarded-left g error_body ds (guard-error name) (macros-new name ms d)) in
-    let left = left-is (preprocessed_texts (header_text name ms) (header_name name) (including name)) (record { tokens = []; macros = map named_kinds ((g, []) ∷ (codes "EINVAL", error_body) ∷ ds) }) bare in
+    let header : AreLines None (header_text ms t) hs = parts-lines (header_parts ms t) hs (say-header ms t (guard_name t a.file) (macro_names t a.file) s) in
+    let bare : bare_preprocessed (preprocessed_texts (header_text ms t) (header_name name) (including name)) ≡ bare_left (Ok ([], (g, []) ∷ (codes "EINVAL", error_body) ∷ ds)) =
+    texts-lines (header_text ms t) (header_name name) (including name) hs (quoted ∷ []) header (source-lines name h)
+    ∙ ap bare_left (guarded-left g error_body ds (guard-error t a.file) (macros-new ms t a.file)) in
+    let left = left-is (preprocessed_texts (header_text ms t) (header_name name) (including name)) (record { tokens = []; macros = map named_kinds ((g, []) ∷ (codes "EINVAL", error_body) ∷ ds) }) bare in
     record {
       left = left.0;
       no_fault = left.1;
       no_tokens = no-tokens left.0.tokens left.2;
-      macros = left.3 ∙ ap (λ (rest : List Macro). (g, []) ∷ (codes "EINVAL", number 22 10 false ∷ []) ∷ rest) (kinds-macros name ms);
+      macros = left.3 ∙ ap (λ (rest : List Macro). (g, []) ∷ (codes "EINVAL", number 22 10 false ∷ []) ∷ rest) (kinds-macros ms t.messages);
     }

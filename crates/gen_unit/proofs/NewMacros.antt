@@ -1,187 +1,150 @@
--- The macros of a header have different names: their ends tell the kinds apart, and the identifiers the messages.
-use Rattle.std.proofs.Common.{◌≡◌, ℕ, Bool, true, false, not, ◌||◌, ◌&&◌, eqb, List, [], ◌∷◌, ◌++◌, map, reverse, refl, sym, ap, ◌∙◌, arith, append_assoc}
+-- The macros of a header are new ones: their names stand among the names of the file, which differ, and none is the error's, which is reserved.
+use Rattle.std.proofs.Common.{◌≡◌, ℕ, Bool, true, false, not, ◌||◌, ◌&&◌, List, [], ◌∷◌, ◌++◌, map, refl, sym, ap, ◌∙◌}
 use Rattle.std.specs.Prelude.{codes}
-use Rattle.std.specs.List.{AllByRecursion, list_any}
+use Rattle.std.specs.List.{AllByRecursion, list_any, flat_map}
 use Rattle.std.specs.Str.{bytes_eq}
-use Rattle.std.specs.Bool.{Decides}
-use Rattle.std.specs.Char.{to_ascii_uppercase, to_ascii_lowercase}
-use Rattle.std.proofs.lemmas.List.{map-append, append_cancel_left, append_cancel_right, reverse-append}
-use Rattle.std.proofs.lemmas.Bool.Decides.{nat_tests, not_from_Decides}
+use Rattle.std.proofs.lemmas.Bool.{false_from_ne_true, both_ways}
 use Rattle.std.proofs.lemmas.Slice.Eq.{bytes_eq-Decides}
 use Rattle.can_model.specs.declared.database.Message.{Message}
-use Rattle.name_rules.specs.IsIdentifier.{is_identifier_byte}
-use Rattle.name_rules.specs.Identifier.{identifier_of}
-use Rattle.name_rules.proofs.Shape.{identifier_of-IsIdentifier}
+use Rattle.name_rules.specs.declared.table.SymbolTable.{SymbolTable}
+use Rattle.name_rules.specs.declared.table.MessageNames.{MessageNames}
+use Rattle.name_rules.specs.Distinct.{are_distinct}
+use Rattle.name_rules.specs.Reserved.{keywords, given_names, sized_types, is_reserved}
+use Rattle.name_rules.specs.Symbols.{one_or_none, file_names_of_signal, file_names_of_message, file_names}
+use Rattle.name_rules.specs.Names.{is_c_name, AreApart}
+use Rattle.c_text.specs.Characters.{IsName}
 use Rattle.c_text.specs.SeenToken.{Bare}
 use Rattle.c_text.specs.Directive.{define}
 use Rattle.c_text.specs.MacroDefinition.{is_macro}
 use Rattle.c_text.specs.Preprocessing.{NamedBody}
 use Rattle.c_text.proofs.Defines.{AreNew, is_macro-append, is_macro-define}
 use Rattle.c_text.proofs.GuardedHeader.{guarded_front}
-use Rattle.gen_unit.specs.Header.{upper, guard_of, prefix_of}
-use Rattle.name_rules.specs.Distinct.{are_distinct}
 use Rattle.gen_unit.proofs.PartLines.{BareLine}
-use Rattle.gen_unit.proofs.HeaderLines.{message_macros, all_macros, error_body, identifier-bytes}
-
--- ---- texts that differ
-
-never_equal : (x y : List ℕ) → (x ≡ y → ⊥) → bytes_eq x y ≡ false
-never_equal x y h = by_cases (bytes_eq x y) (bytes_eq-Decides x y) where
-  by_cases : (r : Bool) → Decides r (x ≡ y) → r ≡ false
-  by_cases true d = absurd (h (d.0 refl))
-  by_cases false d = refl
-
--- texts that end in different pairs of bytes
-never_ends : (x y : List ℕ) (a b c d : ℕ) → (eqb a c && eqb b d) ≡ false → x ++ a ∷ b ∷ [] ≡ y ++ c ∷ d ∷ [] → ⊥
-never_ends x y a b c d h e =
-    let r : b ∷ a ∷ reverse x ≡ d ∷ c ∷ reverse y = sym (reverse-append x (a ∷ b ∷ [])) ∙ ap reverse e ∙ reverse-append y (c ∷ d ∷ []) in
-    let p : a ≡ c = cc in
-    let q : b ≡ d = cc in
-    let t : (eqb a c && eqb b d) ≡ true = grind (arith, nat_tests) in
-    let f : ◌≡◌ {A = Bool} true false = sym t ∙ h in
-    absurd cc
-
-ends_apart : (x s y t : List ℕ) (a b c d : ℕ) → (eqb a c && eqb b d) ≡ false → bytes_eq (x ++ (s ++ a ∷ b ∷ [])) (y ++ (t ++ c ∷ d ∷ [])) ≡ false
-ends_apart x s y t a b c d h = never_equal _ _ (λ e. never_ends (x ++ s) (y ++ t) a b c d h (append_assoc x s (a ∷ b ∷ []) ∙ e ∙ sym (append_assoc y t (c ∷ d ∷ []))))
-
--- capitals tell identifiers apart
-lower-upper : (b : ℕ) → is_identifier_byte b ≡ true → to_ascii_lowercase (to_ascii_uppercase b) ≡ b
-lower-upper b h = grind (arith, nat_tests)
-
-lower-upper_all : (bs : List ℕ) → AllByRecursion (λ b. is_identifier_byte b ≡ true) bs → map to_ascii_lowercase (upper bs) ≡ bs
-lower-upper_all [] h = refl
-lower-upper_all (b ∷ bs) h = λ i. lower-upper b h.0 i ∷ lower-upper_all bs h.1 i
-
-names_apart : (name suffix : List ℕ) (m n : Message) → bytes_eq (identifier_of m.name) (identifier_of n.name) ≡ false → bytes_eq (prefix_of name m ++ suffix) (prefix_of name n ++ suffix) ≡ false
-names_apart name suffix m n h = never_equal (prefix_of name m ++ suffix) (prefix_of name n ++ suffix) (λ e. not_from_Decides (bytes_eq (identifier_of m.name) (identifier_of n.name)) (bytes_eq-Decides (identifier_of m.name) (identifier_of n.name)) h (same e)) where
-  bytes : (k : Message) → AllByRecursion (λ b. is_identifier_byte b ≡ true) (identifier_of k.name)
-  bytes k = identifier-bytes (identifier_of k.name) (identifier_of-IsIdentifier k.name)
-
-  same : prefix_of name m ++ suffix ≡ prefix_of name n ++ suffix → identifier_of m.name ≡ identifier_of n.name
-  same e =
-      let p : upper (name ++ codes "_" ++ identifier_of m.name) ≡ upper (name ++ codes "_" ++ identifier_of n.name) = append_cancel_right (prefix_of name m) (prefix_of name n) suffix e in
-      let q : upper (name ++ codes "_") ++ upper (identifier_of m.name) ≡ upper (name ++ codes "_") ++ upper (identifier_of n.name) =
-      sym (map-append to_ascii_uppercase (name ++ codes "_") (identifier_of m.name)) ∙ p ∙ map-append to_ascii_uppercase (name ++ codes "_") (identifier_of n.name) in
-      sym (lower-upper_all (identifier_of m.name) (bytes m)) ∙ ap (map to_ascii_lowercase) (append_cancel_left (upper (name ++ codes "_")) (upper (identifier_of m.name)) (upper (identifier_of n.name)) q) ∙ lower-upper_all (identifier_of n.name) (bytes n)
-
--- ---- the three macros of a message beside those of others
-
-abbrev frame : List ℕ
-frame = codes "_FRAME_ID"
-
-abbrev size : List ℕ
-size = codes "_LENGTH"
-
-abbrev extended : List ℕ
-extended = codes "_IS_EXTENDED"
-
-frame-size : (x y : List ℕ) → bytes_eq (x ++ frame) (y ++ size) ≡ false
-frame-size x y = ends_apart x (codes "_FRAME_") y (codes "_LENG") 73 68 84 72 refl
-
-frame-extended : (x y : List ℕ) → bytes_eq (x ++ frame) (y ++ extended) ≡ false
-frame-extended x y = ends_apart x (codes "_FRAME_") y (codes "_IS_EXTEND") 73 68 69 68 refl
-
-size-frame : (x y : List ℕ) → bytes_eq (x ++ size) (y ++ frame) ≡ false
-size-frame x y = ends_apart x (codes "_LENG") y (codes "_FRAME_") 84 72 73 68 refl
-
-size-extended : (x y : List ℕ) → bytes_eq (x ++ size) (y ++ extended) ≡ false
-size-extended x y = ends_apart x (codes "_LENG") y (codes "_IS_EXTEND") 84 72 69 68 refl
-
-extended-frame : (x y : List ℕ) → bytes_eq (x ++ extended) (y ++ frame) ≡ false
-extended-frame x y = ends_apart x (codes "_IS_EXTEND") y (codes "_FRAME_") 69 68 73 68 refl
-
-extended-size : (x y : List ℕ) → bytes_eq (x ++ extended) (y ++ size) ≡ false
-extended-size x y = ends_apart x (codes "_IS_EXTEND") y (codes "_LENG") 69 68 84 72 refl
+use Rattle.gen_unit.proofs.HeaderLines.{AreNames, is-name, all_macros, error_body}
 
 abbrev pub names : List (NamedBody (Unit {0})) → List (List ℕ)
 names ds = map (λ d. d.0) ds
 
-abbrev pub ids : List Message → List (List ℕ)
-ids ms = map (λ m. identifier_of m.name) ms
+-- ---- the error's name is reserved
+
+abbrev error_text : List ℕ
+error_text = codes "EINVAL"
+
+error-reserved : is_reserved error_text ≡ true
+unfolding keywords given_names sized_types
+error-reserved = refl
+
+not-error : (x : List ℕ) → is_reserved x ≡ false → bytes_eq x error_text ≡ false
+not-error x h = false_from_ne_true (bytes_eq x error_text) (λ e. both_ways (is_reserved x) h (ap is_reserved ((bytes_eq-Decides x error_text).0 e) ∙ error-reserved))
+
+error-not : (x : List ℕ) → is_reserved x ≡ false → bytes_eq error_text x ≡ false
+error-not x h = false_from_ne_true (bytes_eq error_text x) (λ e. both_ways (is_reserved x) h (ap is_reserved (sym ((bytes_eq-Decides error_text x).0 e)) ∙ error-reserved))
+
+-- ---- the macros among the names of the file
+
+abbrev other_names : MessageNames → List (List ℕ)
+other_names n = one_or_none n.cycle ++ (n.tag ∷ n.pack ∷ n.unpack ∷ n.init ∷ []) ++ flat_map file_names_of_signal n.signals
+
+abbrev rest_names : List MessageNames → List (List ℕ)
+rest_names ns = flat_map file_names_of_message ns
 
 either_false : (a b : Bool) → (a || b) ≡ false → (a ≡ false) × (b ≡ false)
 either_false false b h = (refl, h)
 either_false true b h = absurd (let f : ◌≡◌ {A = Bool} true false = h in cc)
 
--- a name that none of a message's macros has where the identifiers differ is none of all
-others : (name x id : List ℕ) → ((n : Message) → bytes_eq id (identifier_of n.name) ≡ false → list_any (bytes_eq x) (names (message_macros name n)) ≡ false)
-    → (ns : List Message) → list_any (bytes_eq id) (ids ns) ≡ false → list_any (bytes_eq x) (names (all_macros name ns)) ≡ false
-others name x id each [] h = refl
-others name x id each (n ∷ ns) h =
-    let p = either_false (bytes_eq id (identifier_of n.name)) (list_any (bytes_eq id) (ids ns)) h in
-    let a = either_false (bytes_eq x (prefix_of name n ++ frame)) _ (each n p.0) in
-    let b = either_false (bytes_eq x (prefix_of name n ++ size)) _ a.1 in
-    let c = either_false (bytes_eq x (prefix_of name n ++ extended)) _ b.1 in
-    rw (a.0, b.0, c.0) (others name x id each ns p.1)
-
-each-frame : (name : List ℕ) (m n : Message) → bytes_eq (identifier_of m.name) (identifier_of n.name) ≡ false → list_any (bytes_eq (prefix_of name m ++ frame)) (names (message_macros name n)) ≡ false
-each-frame name m n h = rw (names_apart name frame m n h, frame-size (prefix_of name m) (prefix_of name n), frame-extended (prefix_of name m) (prefix_of name n)) refl
-
-each-size : (name : List ℕ) (m n : Message) → bytes_eq (identifier_of m.name) (identifier_of n.name) ≡ false → list_any (bytes_eq (prefix_of name m ++ size)) (names (message_macros name n)) ≡ false
-each-size name m n h = rw (size-frame (prefix_of name m) (prefix_of name n), names_apart name size m n h, size-extended (prefix_of name m) (prefix_of name n)) refl
-
-each-extended : (name : List ℕ) (m n : Message) → bytes_eq (identifier_of m.name) (identifier_of n.name) ≡ false → list_any (bytes_eq (prefix_of name m ++ extended)) (names (message_macros name n)) ≡ false
-each-extended name m n h = rw (extended-frame (prefix_of name m) (prefix_of name n), extended-size (prefix_of name m) (prefix_of name n), names_apart name extended m n h) refl
-
 both_true : (a b : Bool) → (not a && b) ≡ true → (a ≡ false) × (b ≡ true)
 both_true false b h = (refl, h)
 both_true true b h = absurd (let f : ◌≡◌ {A = Bool} false true = h in cc)
 
-pub macros-distinct : (name : List ℕ) (ms : List Message) → are_distinct (ids ms) ≡ true → are_distinct (names (all_macros name ms)) ≡ true
-macros-distinct name [] h = refl
-macros-distinct name (m ∷ ms) h =
-    let id = identifier_of m.name in
-    let p = both_true (list_any (bytes_eq id) (ids ms)) (are_distinct (ids ms)) h in
-    let x = prefix_of name m in
-    rw (
-      frame-size x x,
-      frame-extended x x,
-      others name (x ++ frame) id (each-frame name m) ms p.0,
-      size-extended x x,
-      others name (x ++ size) id (each-size name m) ms p.0,
-      others name (x ++ extended) id (each-extended name m) ms p.0,
-    ) (macros-distinct name ms p.1)
+-- a name that is none of two lists' is none of the second's
+none_behind : (x : List ℕ) (xs ys : List (List ℕ)) → list_any (bytes_eq x) (xs ++ ys) ≡ false → list_any (bytes_eq x) ys ≡ false
+none_behind x [] ys h = h
+none_behind x (y ∷ xs) ys h = none_behind x xs ys (either_false (bytes_eq x y) (list_any (bytes_eq x) (xs ++ ys)) h).1
+
+-- a name that is none of the file's is none of the macros'
+none_among : (x : List ℕ) (ms : List Message) (ns : List MessageNames) → list_any (bytes_eq x) (rest_names ns) ≡ false → list_any (bytes_eq x) (names (all_macros ms ns)) ≡ false
+none_among x [] ns h = refl
+none_among x (m ∷ ms) [] h = refl
+none_among x (m ∷ ms) (n ∷ ns) h =
+    let others : List (List ℕ) = other_names n ++ rest_names ns in
+    let a = either_false (bytes_eq x n.frame_id) (list_any (bytes_eq x) (n.length ∷ n.extended ∷ others)) h in
+    let b = either_false (bytes_eq x n.length) (list_any (bytes_eq x) (n.extended ∷ others)) a.1 in
+    let c = either_false (bytes_eq x n.extended) (list_any (bytes_eq x) others) b.1 in
+    rw (a.0, b.0, c.0) (none_among x ms ns (none_behind x (other_names n) (rest_names ns) c.1))
+
+distinct_behind : (xs ys : List (List ℕ)) → are_distinct (xs ++ ys) ≡ true → are_distinct ys ≡ true
+distinct_behind [] ys h = h
+distinct_behind (x ∷ xs) ys h = distinct_behind xs ys (both_true (list_any (bytes_eq x) (xs ++ ys)) (are_distinct (xs ++ ys)) h).1
+
+macros_distinct : (ms : List Message) (ns : List MessageNames) → are_distinct (rest_names ns) ≡ true → are_distinct (names (all_macros ms ns)) ≡ true
+macros_distinct [] ns h = refl
+macros_distinct (m ∷ ms) [] h = refl
+macros_distinct (m ∷ ms) (n ∷ ns) h =
+    let others : List (List ℕ) = other_names n ++ rest_names ns in
+    let none : (x : List ℕ) → list_any (bytes_eq x) others ≡ false → list_any (bytes_eq x) (names (all_macros ms ns)) ≡ false = λ x k. none_among x ms ns (none_behind x (other_names n) (rest_names ns) k) in
+    let p = both_true (list_any (bytes_eq n.frame_id) (n.length ∷ n.extended ∷ others)) (are_distinct (n.length ∷ n.extended ∷ others)) h in
+    let q = both_true (list_any (bytes_eq n.length) (n.extended ∷ others)) (are_distinct (n.extended ∷ others)) p.1 in
+    let r = both_true (list_any (bytes_eq n.extended) others) (are_distinct others) q.1 in
+    let a = either_false (bytes_eq n.frame_id n.length) (list_any (bytes_eq n.frame_id) (n.extended ∷ others)) p.0 in
+    let b = either_false (bytes_eq n.frame_id n.extended) (list_any (bytes_eq n.frame_id) others) a.1 in
+    let c = either_false (bytes_eq n.length n.extended) (list_any (bytes_eq n.length) others) q.0 in
+    rw (a.0, b.0, none n.frame_id b.1, c.0, none n.length c.1, none n.extended r.0) (macros_distinct ms ns (distinct_behind (other_names n) (rest_names ns) r.1))
+
+-- what is so of all names of the file is so of the macros'
+all_behind : (P : List ℕ → Type 0) (xs ys : List (List ℕ)) → AllByRecursion P (xs ++ ys) → AllByRecursion P ys
+all_behind P [] ys h = h
+all_behind P (x ∷ xs) ys h = all_behind P xs ys h.1
+
+all_among : (P : List ℕ → Type 0) (ms : List Message) (ns : List MessageNames) → AllByRecursion P (rest_names ns) → AllByRecursion (λ d. P d.0) (all_macros ms ns)
+all_among P [] ns h = tt
+all_among P (m ∷ ms) [] h = tt
+all_among P (m ∷ ms) (n ∷ ns) h = (h.0, (h.1.0, (h.1.1.0, all_among P ms ns (all_behind P (other_names n) (rest_names ns) h.1.1.1))))
+
+names_of : (ns : List MessageNames) → AllByRecursion (λ x. is_c_name x ≡ true) (rest_names ns) → AreNames ns
+names_of [] h = tt
+names_of (n ∷ ns) h =
+    ((is-name n.frame_id h.0, is-name n.length h.1.0, is-name n.extended h.1.1.0), names_of ns (all_behind (λ x. is_c_name x ≡ true) (other_names n) (rest_names ns) h.1.1.1))
 
 -- ---- none of them is a macro before its line
 
 abbrev AreNone : List BareLine → List (NamedBody (Unit {0})) → Type 0
 AreNone before ds = AllByRecursion (λ d. is_macro d.0 before ≡ false) ds
 
-none-more : (before : List BareLine) (n : List ℕ) (body : List Bare) (ds : List (NamedBody (Unit {0}))) → AreNone before ds → list_any (bytes_eq n) (names ds) ≡ false → AreNone (before ++ define tt n body ∷ []) ds
-none-more before n body [] h k = tt
-none-more before n body (d ∷ ds) h k =
+none_more : (before : List BareLine) (n : List ℕ) (body : List Bare) (ds : List (NamedBody (Unit {0}))) → AreNone before ds → list_any (bytes_eq n) (names ds) ≡ false → AreNone (before ++ define tt n body ∷ []) ds
+none_more before n body [] h k = tt
+none_more before n body (d ∷ ds) h k =
     let p = either_false (bytes_eq n d.0) (list_any (bytes_eq n) (names ds)) k in
-    (is_macro-append d.0 before (define tt n body ∷ []) ∙ (λ i. h.0 i || is_macro-define d.0 tt n body i) ∙ p.0, none-more before n body ds h.1 p.1)
+    (is_macro-append d.0 before (define tt n body ∷ []) ∙ (λ i. h.0 i || is_macro-define d.0 tt n body i) ∙ p.0, none_more before n body ds h.1 p.1)
 
-new-from : (before : List BareLine) (ds : List (NamedBody (Unit {0}))) → AreNone before ds → are_distinct (names ds) ≡ true → AreNew tt before ds
-new-from before [] h k = tt
-new-from before (d ∷ ds) h k =
+new_from : (before : List BareLine) (ds : List (NamedBody (Unit {0}))) → AreNone before ds → are_distinct (names ds) ≡ true → AreNew tt before ds
+new_from before [] h k = tt
+new_from before (d ∷ ds) h k =
     let p = both_true (list_any (bytes_eq d.0) (names ds)) (are_distinct (names ds)) k in
-    (h.0, new-from (before ++ define tt d.0 d.1 ∷ []) ds (none-more before d.0 d.1 ds h.1 p.0) p.1)
+    (h.0, new_from (before ++ define tt d.0 d.1 ∷ []) ds (none_more before d.0 d.1 ds h.1 p.0) p.1)
 
-abbrev error_text : List ℕ
-error_text = codes "EINVAL"
+front_none : (g x : List ℕ) → bytes_eq g x ≡ false → bytes_eq error_text x ≡ false → is_macro x (guarded_front g error_body) ≡ false
+front_none g x h k = rw (h, k) refl
 
-pub guard-error : (name : List ℕ) → bytes_eq (guard_of name) error_text ≡ false
-guard-error name = ends_apart (upper name) [] (codes "EINV") [] 95 72 65 76 refl
+none_in_front : (g : List ℕ) (ds : List (NamedBody (Unit {0}))) → list_any (bytes_eq g) (names ds) ≡ false → AllByRecursion (λ d. is_reserved d.0 ≡ false) ds → AreNone (guarded_front g error_body) ds
+none_in_front g [] h f = tt
+none_in_front g (d ∷ ds) h f =
+    let p = either_false (bytes_eq g d.0) (list_any (bytes_eq g) (names ds)) h in
+    (front_none g d.0 p.0 (error-not d.0 f.0), none_in_front g ds p.1 f.1)
 
-front-none : (g x : List ℕ) → bytes_eq g x ≡ false → bytes_eq error_text x ≡ false → is_macro x (guarded_front g error_body) ≡ false
-front-none g x h k = rw (h, k) refl
+-- ---- of a table
 
-message-none : (name : List ℕ) (ms : List Message) → AreNone (guarded_front (guard_of name) error_body) (all_macros name ms)
-message-none name [] = tt
-message-none name (m ∷ ms) =
-    let x = prefix_of name m in
-    let g = guard_of name in (
-      front-none g (x ++ frame) (ends_apart (upper name) [] x (codes "_FRAME_") 95 72 73 68 refl) (ends_apart (codes "EINV") [] x (codes "_FRAME_") 65 76 73 68 refl),
-      (
-        front-none g (x ++ size) (ends_apart (upper name) [] x (codes "_LENG") 95 72 84 72 refl) (ends_apart (codes "EINV") [] x (codes "_LENG") 65 76 84 72 refl),
-        (
-          front-none g (x ++ extended) (ends_apart (upper name) [] x (codes "_IS_EXTEND") 95 72 69 68 refl) (ends_apart (codes "EINV") [] x (codes "_IS_EXTEND") 65 76 69 68 refl),
-          message-none name ms,
-        ),
-      ),
-    )
+pub guard_name : (t : SymbolTable) → AreApart is_reserved (file_names t) → IsName t.guard
+guard_name t h = is-name t.guard h.words.0
 
-pub macros-new : (name : List ℕ) (ms : List Message) → are_distinct (ids ms) ≡ true → AreNew tt (guarded_front (guard_of name) error_body) (all_macros name ms)
-macros-new name ms h = new-from (guarded_front (guard_of name) error_body) (all_macros name ms) (message-none name ms) (macros-distinct name ms h)
+pub macro_names : (t : SymbolTable) → AreApart is_reserved (file_names t) → AreNames t.messages
+macro_names t h = names_of t.messages h.words.1
+
+pub guard-error : (t : SymbolTable) → AreApart is_reserved (file_names t) → bytes_eq t.guard error_text ≡ false
+guard-error t h = not-error t.guard h.free.0
+
+pub macros-new : (ms : List Message) (t : SymbolTable) → AreApart is_reserved (file_names t) → AreNew tt (guarded_front t.guard error_body) (all_macros ms t.messages)
+macros-new ms t h =
+    let p = both_true (list_any (bytes_eq t.guard) (rest_names t.messages)) (are_distinct (rest_names t.messages)) h.distinct in
+    new_from (guarded_front t.guard error_body) (all_macros ms t.messages)
+    (none_in_front t.guard (all_macros ms t.messages) (none_among t.guard ms t.messages p.0) (all_among (λ x. is_reserved x ≡ false) ms t.messages h.free.1))
+    (macros_distinct ms t.messages p.1)

@@ -1,9 +1,9 @@
 -- The header of a database, as a list of parts.
-use Rattle.std.specs.Prelude.{ℕ, List, [], ◌∷◌, ◌++◌, map, codes}
-use Rattle.std.specs.List.{flat_map}
-use Rattle.std.specs.Char.{to_ascii_uppercase}
+use Rattle.std.specs.Prelude.{ℕ, List, [], ◌∷◌, ◌++◌, codes}
+use Rattle.std.specs.List.{flat_map, zip}
 use Rattle.can_model.specs.declared.database.Message.{Message}
-use Rattle.name_rules.specs.Identifier.{identifier_of}
+use Rattle.name_rules.specs.declared.table.SymbolTable.{SymbolTable}
+use Rattle.name_rules.specs.declared.table.MessageNames.{MessageNames}
 use Rattle.gen_unit.specs.Parts.{Part, comment, blank, include, if_not_defined, define, end_if, text_of}
 use Rattle.gen_unit.specs.declared.parts.MacroBody.TheVariants.{Empty, Plain, Hexadecimal, Unsigned, Flag}
 
@@ -14,17 +14,6 @@ opening_text = codes "Generated from a CAN database. Do not edit."
 unfoldable pub error_name : List ℕ
 error_name = codes "EINVAL"
 
-abbrev pub upper : List ℕ → List ℕ
-upper bytes = map to_ascii_uppercase bytes
-
--- the include guard
-abbrev pub guard_of : List ℕ → List ℕ
-guard_of name = upper name ++ codes "_H"
-
--- the macros of a message begin with its database's name and its own
-abbrev pub prefix_of : List ℕ → Message → List ℕ
-prefix_of name m = upper (name ++ codes "_" ++ identifier_of m.name)
-
 -- a comment follows a blank, where there is one
 abbrev pub after_blank : List ℕ → List ℕ
 after_blank [] = []
@@ -34,14 +23,19 @@ after_blank (b ∷ bs) = 32 ∷ b ∷ bs
 abbrev pub about : Message → List ℕ
 about m = codes "Message " ++ m.name ++ after_blank m.comment
 
-abbrev pub message_parts : List ℕ → Message → List Part
-message_parts name m =
+-- a message's macros, by their names
+abbrev pub message_parts : Message → MessageNames → List Part
+message_parts m names =
     comment (about m)
-    ∷ define (prefix_of name m ++ codes "_FRAME_ID") (Hexadecimal m.id)
-    ∷ define (prefix_of name m ++ codes "_LENGTH") (Unsigned m.length)
-    ∷ define (prefix_of name m ++ codes "_IS_EXTENDED") (Flag m.extended)
+    ∷ define names.frame_id (Hexadecimal m.id)
+    ∷ define names.length (Unsigned m.length)
+    ∷ define names.extended (Flag m.extended)
     ∷ blank
     ∷ []
+
+-- those of each message with its names
+abbrev pub all_message_parts : List Message → List MessageNames → List Part
+all_message_parts messages names = flat_map (λ p. message_parts p.0 p.1) (zip messages names)
 
 abbrev pub opening_parts : List ℕ → List Part
 opening_parts guard = comment opening_text ∷ blank ∷ if_not_defined guard ∷ define guard Empty ∷ blank ∷ []
@@ -53,10 +47,10 @@ abbrev pub error_parts : List Part
 error_parts = if_not_defined error_name ∷ define error_name (Plain 22) ∷ end_if ∷ blank ∷ []
 
 -- the comment, the guard, the includes, the error's number, each message, and the end of the guard
-abbrev pub header_parts : List ℕ → List Message → List Part
-header_parts name messages =
-    opening_parts (guard_of name) ++ include_parts ++ error_parts ++ flat_map (message_parts name) messages ++ end_if ∷ []
+abbrev pub header_parts : List Message → SymbolTable → List Part
+header_parts messages names =
+    opening_parts names.guard ++ include_parts ++ error_parts ++ all_message_parts messages names.messages ++ end_if ∷ []
 
--- the bytes of the header of these messages in the database of that name
-abbrev pub header_text : List ℕ → List Message → List ℕ
-header_text name messages = text_of (header_parts name messages)
+-- the bytes of the header of these messages, by the names of a table
+abbrev pub header_text : List Message → SymbolTable → List ℕ
+header_text messages names = text_of (header_parts messages names)

@@ -1,13 +1,14 @@
 -- What a header says as C (ISO/IEC 9899:1999, 6.4 and 6.10): its macros, beside a source that includes it alone.
 use Rattle.std.specs.Prelude.{◌≡◌, ℕ, Bool, true, false, if◌then◌else◌, List, [], ◌∷◌, ◌++◌, map, codes, Ok}
-use Rattle.std.specs.List.{flat_map}
+use Rattle.std.specs.List.{flat_map, zip}
 use Rattle.can_model.specs.declared.database.Message.{Message}
+use Rattle.name_rules.specs.declared.table.SymbolTable.{SymbolTable}
+use Rattle.name_rules.specs.declared.table.MessageNames.{MessageNames}
 use Rattle.c_text.specs.declared.token.TokenKind.{TokenKind}
 use Rattle.c_text.specs.declared.token.TokenKind.TheVariants.{Constant as Number, Mark}
 use Rattle.c_text.specs.declared.preprocessed.Preprocessed.{Preprocessed}
 use Rattle.c_text.specs.Preprocessing.{preprocessed_texts}
 use Rattle.c_text.specs.BarePreprocessing.{macro_kinds}
-use Rattle.gen_unit.specs.Header.{guard_of, prefix_of}
 
 -- a macro's name and the kinds of its body's tokens
 abbrev pub Macro : Type 0
@@ -22,17 +23,17 @@ abbrev pub in_brackets : TokenKind → List TokenKind
 in_brackets k = Mark (codes "(") ∷ k ∷ Mark (codes ")") ∷ []
 
 -- the frame id, the length, and 1 where the frame is extended, else 0
-abbrev pub constants_of : List ℕ → Message → List Macro
-constants_of name m =
-    (prefix_of name m ++ codes "_FRAME_ID", in_brackets (number m.id 16 true))
-    ∷ (prefix_of name m ++ codes "_LENGTH", in_brackets (number m.length 10 true))
-    ∷ (prefix_of name m ++ codes "_IS_EXTENDED", in_brackets (number (if m.extended then 1 else 0) 10 false))
+abbrev pub constants_of : Message → MessageNames → List Macro
+constants_of m names =
+    (names.frame_id, in_brackets (number m.id 16 true))
+    ∷ (names.length, in_brackets (number m.length 10 true))
+    ∷ (names.extended, in_brackets (number (if m.extended then 1 else 0) 10 false))
     ∷ []
 
--- the guard, the error's number, and three constants for each message
-abbrev pub macros_of : List ℕ → List Message → List Macro
-macros_of name messages =
-    (guard_of name, []) ∷ (codes "EINVAL", number 22 10 false ∷ []) ∷ flat_map (constants_of name) messages
+-- the guard, the error's number, and three constants for each message with its names
+abbrev pub macros_of : List Message → SymbolTable → List Macro
+macros_of messages names =
+    (names.guard, []) ∷ (codes "EINVAL", number 22 10 false ∷ []) ∷ flat_map (λ p. constants_of p.0 p.1) (zip messages names.messages)
 
 -- the name of the header of a database
 abbrev pub header_name : List ℕ → List ℕ
@@ -43,8 +44,8 @@ abbrev pub including : List ℕ → List ℕ
 including name = codes "#include " ++ 34 ∷ (header_name name ++ 34 ∷ 10 ∷ [])
 
 -- the header has no fault of tokens or of preprocessing, leaves no token, and defines these macros and no other ones
-pub record DeclaresConstants (name : List ℕ) (messages : List Message) (header : List ℕ) : Type 0 where
+pub record DeclaresConstants (name : List ℕ) (messages : List Message) (names : SymbolTable) (header : List ℕ) : Type 0 where
   pub left : Preprocessed
   pub no_fault : preprocessed_texts header (header_name name) (including name) ≡ Ok left
   pub no_tokens : left.tokens ≡ []
-  pub macros : map macro_kinds left.macros ≡ macros_of name messages
+  pub macros : map macro_kinds left.macros ≡ macros_of messages names

@@ -1,7 +1,6 @@
 //! `name_rules` and `gen_unit`: the identifier of a name, the names of a database, and what a header
 //! says of a message.
-use can_model::Message;
-use cg_out::{List, Memory, Text};
+use cg_out::{Memory, Text};
 use db_text::read_dbc;
 use gen_unit::header;
 use name_rules::{MessageNames, SymbolTable, identifier, symbols};
@@ -162,23 +161,16 @@ fn a_database_has_its_names(rt: HostRuntime) -> Result<(), Fail> {
 }
 
 #[test]
-fn a_message_has_three_macros(rt: HostRuntime) -> Result<(), Memory> {
+fn a_message_has_three_macros(rt: HostRuntime) -> Result<(), Fail> {
     let alloc = rt.alloc();
-    let messages = [Message {
-        id: 2047,
-        extended: false,
-        name: Text::copy_of(alloc, b"A*B?\\c")?,
-        length: 64,
-        cycle: None,
-        comment: Text::copy_of(alloc, b"says */")?,
-        signals: List::new(alloc),
-        line: 1,
-    }];
-    let text = header(alloc, b"x", &messages)?;
-    let tail = b"/* Message A.B..c says ./ */
-#define X_A_B_C_FRAME_ID (0x7ffu)
-#define X_A_B_C_LENGTH (64u)
-#define X_A_B_C_IS_EXTENDED (0)
+    let checked = read_dbc(alloc, b"BO_ 2047 ABC: 64 X CM_ BO_ 2047 \"A*B?\\c */\";")?;
+    let name = identifier(alloc, b"x")?;
+    let names = symbols(alloc, checked.database(), &name, false)?;
+    let text = header(alloc, name.bytes(), checked.database(), &names)?;
+    let tail = b"/* Message ABC A.B..c ./ */
+#define X_ABC_FRAME_ID (0x7ffu)
+#define X_ABC_LENGTH (64u)
+#define X_ABC_IS_EXTENDED (0)
 
 #endif
 ";

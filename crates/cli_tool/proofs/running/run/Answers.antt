@@ -2,7 +2,7 @@
 use Rattle.std.specs.declared.option.Option.{Option}
 use Rattle.std.specs.declared.option.Option.TheVariants.{None, Some}
 use Rattle.cli_tool.specs.World.{World, world}
-use Rattle.cli_tool.specs.Command.{Command, generate_c_source, check, exec, command_of}
+use Rattle.cli_tool.specs.Command.{Command, generate_c_source, check, exec, encode, decode, command_of}
 use Rattle.cli_tool.specs.TaskEnds.{TaskEnds}
 use Rattle.cli_tool.specs.Ends.{task_found, task_asked, HeaderOfCommand}
 use Rattle.cli_tool.specs.declared.status.Status.{Status}
@@ -22,6 +22,8 @@ by_command None old new status e = tt
 by_command (Some (generate_c_source file)) old new status e = header_stands file old new status e
 by_command (Some (check header source)) old new status e = tt
 by_command (Some (exec header source model function words)) old new status e = tt
+by_command (Some (encode file message words)) old new status e = tt
+by_command (Some (decode file number digits)) old new status e = tt
 
 pub returns-clause-header : goal.returns-clause-header
 returns-clause-header g c =
