@@ -143,6 +143,25 @@ const FAULTS: &[(&str, &str, &str)] = &[
     ("encode a.sym Nope", "", "refused 25 NotYet line 0\n"),
 ];
 
+/// Runs a row over one file; `-` in place of a report is wrong words.
+fn check_row<'a>(
+    rt: &impl Abort,
+    alloc: Global,
+    file: &'a str,
+    text: &'a str,
+    words: &'a str,
+    report: &'a str,
+) -> Result<(), Fail> {
+    let files = [(file, text.as_bytes())];
+    let left = [(file, Some(text.as_bytes()))];
+    let (status, told) = if report == "-" {
+        (Status::Usage, USAGE.as_bytes())
+    } else {
+        (Status::Done, report.as_bytes())
+    };
+    check_about(rt, alloc, &plain(words, &files, status, told, &left), words)
+}
+
 /// Runs each row over one file.
 fn check_rows(
     rt: &impl Abort,
@@ -151,15 +170,8 @@ fn check_rows(
     text: &str,
     rows: &[(&str, &str)],
 ) -> Result<(), Fail> {
-    let files = [(file, text.as_bytes())];
-    let left = [(file, Some(text.as_bytes()))];
     for &(words, report) in rows {
-        let row = if report == "-" {
-            plain(words, &files, Status::Usage, USAGE.as_bytes(), &left)
-        } else {
-            plain(words, &files, Status::Done, report.as_bytes(), &left)
-        };
-        check_about(rt, alloc, &row, words)?;
+        check_row(rt, alloc, file, text, words, report)?;
     }
     Ok(())
 }
