@@ -33,7 +33,7 @@ use Rattle.cg_out.proofs.WordLaws.{or_else-none}
 
 -- ---- matching brackets
 
-over-one : (ts : List Token) → IsClosed ts → depth_over 1 ts ≡ 1
+pub over-one : (ts : List Token) → IsClosed ts → depth_over 1 ts ≡ 1
 over-one ts c = over-suc 0 0 ts (c.inside 0) ∙ ap suc c.flat
 
 over-two : (ts : List Token) → IsClosed ts → depth_over 2 ts ≡ 2
@@ -128,7 +128,7 @@ square-opens kind e = record { depth = λ d. rw e refl; comma = rw e refl; unlev
 pub round-closes : (kind : TokenKind) → mark_of kind ≡ Some mark.CloseParen → (d : ℕ) → depth_after kind d ≡ d - 1
 round-closes kind e d = rw e refl
 
-square-closes : (kind : TokenKind) → mark_of kind ≡ Some mark.CloseBracket → (d : ℕ) → depth_after kind d ≡ d - 1
+pub square-closes : (kind : TokenKind) → mark_of kind ≡ Some mark.CloseBracket → (d : ℕ) → depth_after kind d ≡ d - 1
 square-closes kind e d = rw e refl
 
 pub unlevelled-mark : (kind : TokenKind) (m : Punctuator) → mark_of kind ≡ Some m → binary_mark (Some m) ≡ None → operator kind ≡ None
@@ -315,7 +315,7 @@ module _ (room bound : ℕ) (o c : Token) (p : List Token) (e : Expr) (is_open :
 -- ---- what begins with a name
 
 -- what the last token closes
-closed-is : (c : Token) (p : List Token) → ((d : ℕ) → depth_after c.kind d ≡ d - 1) → operator c.kind ≡ None → IsClosed p → closed (p ++ c ∷ []) ≡ Some (closed_in p c.place)
+pub closed-is : (c : Token) (p : List Token) → ((d : ℕ) → depth_after c.kind d ≡ d - 1) → operator c.kind ≡ None → IsClosed p → closed (p ++ c ∷ []) ≡ Some (closed_in p c.place)
 closed-is c p closes_one unlevelled part =
     ap (λ at. closed_by at (p ++ c ∷ [])) (close-at c p [] closes_one unlevelled part) ∙ rw (take-append_seam, drop-append_seam) refl
 
@@ -438,7 +438,7 @@ drop-next : (xs : List Token) (c : Token) (ys : List Token) → drop (length xs 
 drop-next [] c ys = refl
 drop-next (x ∷ xs) c ys = let e : length (x ∷ xs) + 1 ≡ suc (length xs + 1) = omega arith in ap (λ n. drop n (x ∷ (xs ++ c ∷ ys))) e ∙ drop-next xs c ys
 
-words-closed : (ts : List Token) → AreTypeWords ts → IsClosed ts
+pub words-closed : (ts : List Token) → AreTypeWords ts → IsClosed ts
 words-closed [] w = closed-none
 words-closed (t ∷ ts) w = let is = type-word t.kind w.0 in closed-flat t ts is.depth (words-closed ts w.1)
 
@@ -509,7 +509,7 @@ parts-some after d [] = omega arith
 parts-some after d (t ∷ ts) = put-some (d == 0 && is_comma t.kind) t (parts after (depth_after t.kind d) ts) (parts-some after (depth_after t.kind d) ts)
 
 -- the parts on either side of a comma
-parts-seam : (after : Place) (d : ℕ) (xs : List Token) (c : Token) (ys : List Token) → mark_of c.kind ≡ Some mark.Comma → depth_over d xs ≡ 0 → parts after d (xs ++ c ∷ ys) ≡ parts c.place d xs ++ parts after 0 ys
+pub parts-seam : (after : Place) (d : ℕ) (xs : List Token) (c : Token) (ys : List Token) → mark_of c.kind ≡ Some mark.Comma → depth_over d xs ≡ 0 → parts after d (xs ++ c ∷ ys) ≡ parts c.place d xs ++ parts after 0 ys
 parts-seam after d [] c ys is flat =
     ap (λ n. parts after n (c ∷ ys)) flat
     ∙ ap (λ m. put_in (is_comma_mark m) c (parts after (depth_by (mark_opens m) (mark_closes m) 0) ys)) is
@@ -518,7 +518,7 @@ parts-seam after d (x ∷ xs) c ys is flat =
     ∙ put-append (d == 0 && is_comma x.kind) x (parts c.place (depth_after x.kind d) xs) (parts after 0 ys) (parts-some c.place (depth_after x.kind d) xs)
 
 -- without a comma there is one
-parts-one : (after : Place) (d : ℕ) (xs : List Token) → has_comma d xs ≡ false → parts after d xs ≡ (xs, after) ∷ []
+pub parts-one : (after : Place) (d : ℕ) (xs : List Token) → has_comma d xs ≡ false → parts after d xs ≡ (xs, after) ∷ []
 parts-one after d [] e = refl
 parts-one after d (x ∷ xs) e =
     let o = no-comma-first d x xs e in

@@ -99,10 +99,10 @@ empty-statement may room t e = record {
 
 -- ---- blocks (6.8.2)
 
-brace-opens : (kind : TokenKind) → mark_of kind ≡ Some mark.OpenBrace → IsOpen kind
+pub brace-opens : (kind : TokenKind) → mark_of kind ≡ Some mark.OpenBrace → IsOpen kind
 brace-opens kind e = record { depth = λ d. rw e refl; comma = rw e refl; unlevelled = rw e refl }
 
-brace-closes : (kind : TokenKind) → mark_of kind ≡ Some mark.CloseBrace → (d : ℕ) → depth_after kind d ≡ d - 1
+pub brace-closes : (kind : TokenKind) → mark_of kind ≡ Some mark.CloseBrace → (d : ℕ) → depth_after kind d ≡ d - 1
 brace-closes kind e d = rw e refl
 
 pub block-statement : (may : Bool) (room : ℕ) (o c : Token) (q : List Token) (ss : List Stmt) → mark_of o.kind ≡ Some mark.OpenBrace → mark_of c.kind ≡ Some mark.CloseBrace

@@ -240,7 +240,7 @@ cond-none true i y e = cc
 cond-none false i y e = (refl, e)
 
 -- a list that closes no bracket, after its first token
-closing-rest : (at d : ℕ) (x : Token) (xs : List Token) → closing_from at d (x ∷ xs) ≡ None
+pub closing-rest : (at d : ℕ) (x : Token) (xs : List Token) → closing_from at d (x ∷ xs) ≡ None
     → (depth_after x.kind d == 0 ≡ false) × (closing_from (at + 1) (depth_after x.kind d) xs ≡ None)
 closing-rest at d x xs e = cond-none (depth_after x.kind d == 0) at (closing_from (at + 1) (depth_after x.kind d) xs) e
 
