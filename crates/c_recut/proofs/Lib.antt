@@ -1,0 +1,9 @@
+pub mod Tokens
+pub mod CutExpression
+pub mod Quiet
+pub mod CutSimple
+pub mod CutStatement
+pub mod CutItem
+pub mod CutFunction
+pub mod Matching
+pub mod PairLaw
