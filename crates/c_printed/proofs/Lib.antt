@@ -3,3 +3,9 @@ pub mod Spelled
 pub mod ExpressionLaw
 pub mod StatementLaw
 pub mod ItemLaw
+pub mod ItemLines
+pub mod PartLines
+pub mod SettledLaw
+pub mod ReadLines
+pub mod UnitReading
+pub mod UnitLeft

@@ -47,11 +47,20 @@ IsType s = Unit {0}
 
 -- ---- expressions
 
--- a sign does not stand directly before the same sign
+-- the prefix operator that a tree begins with
+abbrev pub first_sign : Tree → Option UnaryOp
+first_sign (unary u x) = Some u
+first_sign t = None
+
+abbrev pub AreDistinct : Option UnaryOp → UnaryOp → Type 0
+AreDistinct (Some sign.Plus) sign.Plus = ⊥
+AreDistinct (Some sign.Minus) sign.Minus = ⊥
+AreDistinct (Some s) u = Unit {0}
+AreDistinct None u = Unit {0}
+
+-- no sign stands directly before the same sign
 abbrev pub AreApart : UnaryOp → Tree → Type 0
-AreApart sign.Plus (unary sign.Plus x) = ⊥
-AreApart sign.Minus (unary sign.Minus x) = ⊥
-AreApart u x = Unit {0}
+AreApart u t = AreDistinct (first_sign t) u
 
 abbrev mutual
   -- no operator outside brackets is looser than the level
