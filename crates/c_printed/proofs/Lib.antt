@@ -9,3 +9,5 @@ pub mod SettledLaw
 pub mod ReadLines
 pub mod UnitReading
 pub mod UnitLeft
+pub mod ExpandedFits
+pub mod UnitFits
