@@ -1,24 +1,21 @@
 -- The tokens of prototypes and definitions of functions are cut into the functions.
-use Rattle.std.proofs.Common.{◌≡◌, ℕ, zero, suc, ◌+◌, ◌-◌, ◌==◌, ◌<◌, Bool, true, false, cond, List, [], ◌∷◌, ◌++◌, length, take, drop, map, Option, Some, None, Result, Ok, Err, refl, sym, ap, subst, ◌∙◌, arith, append_assoc, append-nil, add-one, length-append}
-use Rattle.std.specs.Prelude.{codes, ◌&&◌}
+use Rattle.std.proofs.Common.{◌≡◌, ℕ, zero, suc, ◌+◌, ◌-◌, ◌==◌, ◌<◌, Bool, true, false, cond, List, [], ◌∷◌, ◌++◌, length, take, drop, map, Option, Some, None, Ok, refl, sym, ap, ◌∙◌, arith, append_assoc, add-one, length-append}
+use Rattle.std.specs.Prelude.{codes}
 use Rattle.std.specs.List.{AllByRecursion}
 use Rattle.std.proofs.Math.Seq.{take-append_seam, drop-append_seam, drop-append-add}
 use Rattle.c_text.specs.declared.place.Place.{Place}
 use Rattle.c_text.specs.declared.token.Token.{Token}
 use Rattle.c_text.specs.declared.token.TokenKind.{TokenKind}
 use Rattle.c_text.specs.declared.token.TokenKind.TheVariants.{Word, Mark}
-use Rattle.c_text.specs.declared.token.Spelled.{Spelled}
 use Rattle.c_tree.specs.declared.symbol.Bracket.{Bracket}
-use Rattle.c_tree.specs.declared.symbol.Bracket.TheVariants.{Round, Square, Brace}
-use Rattle.c_tree.specs.declared.symbol.Keyword.{Keyword}
+use Rattle.c_tree.specs.declared.symbol.Bracket.TheVariants.{Brace}
 use Rattle.c_tree.specs.declared.statement.Stmt.{Stmt}
 use Rattle.c_tree.specs.declared.item.CType.{CType}
 use Rattle.c_tree.specs.declared.item.CType.TheVariants.{Void, Integer, Pointer}
 use Rattle.c_tree.specs.declared.item.Field.{Field}
 use Rattle.c_tree.specs.declared.item.Item.{Item}
-use Rattle.c_text.specs.Refusal.{Refusal}
 use Rattle.cg_out.specs.Words.{◌>>=◌, counted}
-use Rattle.c_tree.specs.Symbol.{keyword_in, keyword_of, mark_in, mark_of, name_of, is_semicolon, is_semicolon_mark}
+use Rattle.c_tree.specs.Symbol.{keyword_of, mark_of, is_semicolon_mark}
 use Rattle.c_tree.specs.Brackets.{opens, closes, mark_opens, mark_closes, depth_by, depth_after, closing_from}
 use Rattle.c_tree.specs.declared.symbol.TheConstants.{MOST_OPEN}
 use Rattle.c_tree.specs.TypeName.{kinds_of, front_type}
@@ -27,10 +24,10 @@ use Rattle.c_tree.specs.StatementCut.{is_void, is_void_key, statements}
 use Rattle.c_tree.specs.Sequence.{place_at}
 use Rattle.c_tree.specs.TokenRun.{depth_over, IsClosed}
 use Rattle.c_tree.specs.ParameterCut.{parameters}
-use Rattle.c_tree.specs.FunctionCut.{Tail, prototype, definition, unfinished, body_tail, semicolon_tail, tail_of, function, with_tail, with_parameters, with_name, with_returns, returns_integer, returns_by, function_of, maybe_static, function_item, function_at, FunctionHead as Heading}
-use Rattle.c_tree.specs.UnitCut.{ends_item, item_end, item_by, each_item}
-use Rattle.c_tree.specs.BareStatement.{Actions, actions_of, bare_statement}
-use Rattle.c_tree.specs.BareUnit.{BareField, BareHead, BareItem, bare_field, bare_body, bare_item}
+use Rattle.c_tree.specs.FunctionCut.{body_tail, semicolon_tail, tail_of, function, with_tail, with_parameters, with_name, with_returns, returns_integer, returns_by, function_of, maybe_static, function_item, function_at, FunctionHead as Heading}
+use Rattle.c_tree.specs.UnitCut.{ends_item, item_end, item_by}
+use Rattle.c_tree.specs.BareStatement.{Actions}
+use Rattle.c_tree.specs.BareUnit.{BareHead, bare_field, bare_body, bare_item}
 use Rattle.c_tree.proofs.ExpressionTokens.{closing-rest}
 use Rattle.c_parts.proofs.ExpressionParts.{close-at, closed-is, over-one, round-closes, unlevelled-mark}
 use Rattle.c_parts.proofs.StatementParts.{brace-closes}
@@ -38,15 +35,14 @@ use Rattle.c_printed.specs.Spelling.{left_type, left}
 use Rattle.c_printed.specs.PrintedStatement.{actions_tokens}
 use Rattle.c_printed.specs.PrintedItem.{named_tokens, all_params_tokens, static_tokens, head_tokens, body_tokens}
 use Rattle.c_printed.specs.PrintableItem.{IsReturned, IsHead, FitsBody}
-use Rattle.c_printed.specs.Printable.{IsFree}
-use Rattle.c_recut.proofs.Tokens.{Between, head-of, nil-of, one-of, split-of, between-of}
+use Rattle.c_printed.specs.Within.{BodyWithin}
+use Rattle.c_recut.proofs.Tokens.{head-of, nil-of, one-of, between-of}
 use Rattle.c_recut.proofs.CutExpression.{name-is, marks, mark-is}
-use Rattle.c_recut.proofs.CutSimple.{keys, typed-of}
+use Rattle.c_recut.proofs.CutSimple.{keys}
+use Rattle.c_recut.proofs.Types.{type-first, free_key, typed-of}
 use Rattle.c_recut.proofs.CutStatement.{cut-actions}
-use Rattle.c_recut.proofs.CutItem.{Calm, row, word-calm, named-calm, TypeFirst, type-first, type_key, type-calm, not-static, not-struct-item, ItemAs, AllParametersAs, cut-params}
-use Rattle.c_tree.specs.declared.symbol.Keyword.TheVariants as key
+use Rattle.c_recut.proofs.CutItem.{Calm, word-calm, type-calm, not-static, not-struct-item, ItemAs, cut-params}
 use Rattle.c_tree.specs.declared.symbol.Punctuator.TheVariants as mark
-use Rattle.c_tree.specs.declared.item.Item.TheVariants as item
 use Rattle.c_tree.specs.BareUnit as u
 
 -- ---- where an item ends
@@ -109,8 +105,8 @@ tail-body : (b : Token) (ts : List Token) (c : Token) → tail_of (b ∷ (ts ++ 
 tail-body b [] c = refl
 tail-body b (t ∷ ts) c = refl
 
-cut-tail : (body : Option Actions) (ts : List Token) → FitsBody body → kinds_of ts ≡ body_tokens left body → TailAs body ts
-cut-tail None ts h e =
+cut-tail : (body : Option Actions) (ts : List Token) → FitsBody body → BodyWithin body → kinds_of ts ≡ body_tokens left body → TailAs body ts
+cut-tail None ts h w e =
     let z = head-of (Mark (codes ";")) [] ts e in
     let one = one-of (Mark (codes ";")) ts z in
     let is = mark-is z.first.kind _ mark.Semicolon z.first_kind marks.semicolon_is in
@@ -122,9 +118,9 @@ cut-tail None ts h e =
       some = (0, ap length one);
       made = λ first h c ps p. ap (λ us. with_tail first h c (tail_of us)) one ∙ ap (λ m. with_tail first h c (semicolon_tail (is_semicolon_mark m) z.first.place)) is ∙ ap (λ r. r >>= (λ qs. Ok (function h qs None z.first.place))) p;
     }
-cut-tail (Some list) ts h e =
+cut-tail (Some list) ts h w e =
     let b = between-of (Mark (codes "{")) (actions_tokens left list) (Mark (codes "}")) [] ts e in
-    let x = cut-actions false 63 list b.inner h b.inner_kinds in
+    let x = cut-actions false 63 list b.inner h w b.inner_kinds in
     let open_is = mark-is b.first.kind _ mark.OpenBrace b.first_kind marks.open_brace in
     let close_is = mark-is b.last.kind _ mark.CloseBrace b.last_kind marks.close_brace in
     let whole : ts ≡ b.first ∷ (b.inner ++ b.last ∷ []) = b.is ∙ ap (λ us. b.first ∷ (b.inner ++ b.last ∷ us)) (nil-of b.rest b.rest_kinds) in
@@ -161,12 +157,12 @@ record RestAs (h : BareHead) (body : Option Actions) (ts : List Token) : Type 0 
 abbrev rest_tokens : BareHead → Option Actions → List TokenKind
 rest_tokens h body = Word h.name ∷ Mark (codes "(") ∷ (all_params_tokens left h.params ++ Mark (codes ")") ∷ body_tokens left body)
 
-cut-rest : (h : BareHead) (body : Option Actions) (ts : List Token) → IsHead h → FitsBody body → kinds_of ts ≡ rest_tokens h body → RestAs h body ts
-cut-rest h body ts is fits e =
+cut-rest : (h : BareHead) (body : Option Actions) (ts : List Token) → IsHead h → FitsBody body → BodyWithin body → kinds_of ts ≡ rest_tokens h body → RestAs h body ts
+cut-rest h body ts is fits w e =
     let n = head-of (Word h.name) (Mark (codes "(") ∷ (all_params_tokens left h.params ++ Mark (codes ")") ∷ body_tokens left body)) ts e in
     let b = between-of (Mark (codes "(")) (all_params_tokens left h.params) (Mark (codes ")")) (body_tokens left body) n.rest n.rest_kinds in
     let x = cut-params h.params b.inner is.params b.inner_kinds in
-    let t = cut-tail body b.rest fits b.rest_kinds in
+    let t = cut-tail body b.rest fits w b.rest_kinds in
     let open_is = mark-is b.first.kind _ mark.OpenParen b.first_kind marks.open_is in
     let close_is = mark-is b.last.kind _ mark.CloseParen b.last_kind marks.close_is in
     let inner = b.inner ++ b.last ∷ b.rest in
@@ -209,23 +205,23 @@ record TypedAs (h : BareHead) (body : Option Actions) (ts : List Token) : Type 0
   first : Token
   others : List Token
   is : ts ≡ first ∷ others
-  key_is : type_key (keyword_of first.kind) ≡ true
+  key_is : free_key (keyword_of first.kind) ≡ true
   made : (place : Place) → function_of place h.fixed ts ≡ Ok (function (record { fixed = h.fixed; returns = h.returns; name = h.name; place = name_place }) params list close)
   ends : (at : ℕ) (ys : List Token) → item_end at 0 (ts ++ ys) ≡ Some (at + length ts - 1)
 
 length-rest : (xs ys : List Token) (at : ℕ) → 0 < length ys → at + length xs + length ys - 1 ≡ at + length (xs ++ ys) - 1
 length-rest xs ys at h = omega (arith, length-append xs ys)
 
-cut-typed : (t : CType) (h : BareHead) (body : Option Actions) (ts : List Token) → h.returns ≡ t → IsReturned t → IsHead h → FitsBody body → kinds_of ts ≡ named_tokens left t h.name ++ Mark (codes "(") ∷ (all_params_tokens left h.params ++ Mark (codes ")") ∷ body_tokens left body)
+cut-typed : (t : CType) (h : BareHead) (body : Option Actions) (ts : List Token) → h.returns ≡ t → IsReturned t → IsHead h → FitsBody body → BodyWithin body → kinds_of ts ≡ named_tokens left t h.name ++ Mark (codes "(") ∷ (all_params_tokens left h.params ++ Mark (codes ")") ∷ body_tokens left body)
     → TypedAs h body ts
-cut-typed Void h body ts same i is fits e =
+cut-typed Void h body ts same i is fits w e =
     let x = head-of (Word (codes "void")) (rest_tokens h body) ts e in
-    let r = cut-rest h body x.rest is fits x.rest_kinds in
+    let r = cut-rest h body x.rest is fits w x.rest_kinds in
     let key_void = ap keyword_of x.first_kind ∙ keys.void_is in
     record {
       name_place = r.name_place; params = r.params; list = r.list; close = r.close; params_are = r.params_are; body_is = r.body_is;
       first = x.first; others = x.rest; is = x.is;
-      key_is = ap type_key key_void;
+      key_is = ap free_key key_void;
       made = λ place.
           ap (function_of place h.fixed) x.is ∙ ap (λ w. returns_by (is_void_key w) place h.fixed x.first x.rest) key_void ∙ r.made place Void
           ∙ ap (λ t. Ok (function (record { fixed = h.fixed; returns = t; name = h.name; place = r.name_place }) r.params r.list r.close)) (sym same);
@@ -235,18 +231,18 @@ cut-typed Void h body ts same i is fits e =
           ∙ calm-end at (x.first ∷ []) (x.rest ++ ys) (Word (codes "void") ∷ []) (ap (λ k. k ∷ []) x.first_kind) (word-calm _, tt)
           ∙ r.ends (at + 1) ys ∙ ap Some count ∙ ap (λ us. Some (at + length us - 1)) (sym x.is);
     }
-cut-typed (Integer s) h body ts same i is fits e =
+cut-typed (Integer s) h body ts same i is fits w e =
     let behind = Mark (codes "(") ∷ (all_params_tokens left h.params ++ Mark (codes ")") ∷ body_tokens left body) in
     let e1 : kinds_of ts ≡ left_type s ++ rest_tokens h body = e ∙ append_assoc (left_type s) (Word h.name ∷ []) behind in
     let t = typed-of s (Word h.name) behind ts e1 is.name.1 in
-    let r = cut-rest h body t.rest is fits t.rest_kinds in
+    let r = cut-rest h body t.rest is fits w t.rest_kinds in
     let f = type-first s in
     let x = head-of f.kind (f.rest ++ rest_tokens h body) ts (e1 ∙ ap (λ ks. ks ++ rest_tokens h body) f.is) in
     let some : 0 < length t.rest = more t.rest behind t.rest_kinds in
     record {
       name_place = r.name_place; params = r.params; list = r.list; close = r.close; params_are = r.params_are; body_is = r.body_is;
       first = x.first; others = x.rest; is = x.is;
-      key_is = ap (λ k. type_key (keyword_of k)) x.first_kind ∙ f.key_is;
+      key_is = ap (λ k. free_key (keyword_of k)) x.first_kind ∙ f.free;
       made = λ place.
           ap (function_of place h.fixed) x.is ∙ ap (λ b. returns_by b place h.fixed x.first x.rest) (ap is_void x.first_kind ∙ f.no_void)
           ∙ ap (λ us. returns_integer place h.fixed (front_type us) us) (sym x.is) ∙ ap (λ y. returns_integer place h.fixed y ts) t.front
@@ -261,7 +257,7 @@ cut-typed (Integer s) h body ts same i is fits e =
     more : (us : List Token) (ks : List TokenKind) → kinds_of us ≡ Word h.name ∷ ks → 0 < length us
     more [] ks e = cc
     more (u ∷ us) ks e = omega arith
-cut-typed (Pointer to c) h body ts same i is fits e = absurd i
+cut-typed (Pointer to c) h body ts same i is fits w e = absurd i
 
 -- ---- the whole
 
@@ -279,11 +275,11 @@ ended first others ts got is ends made rest =
     ∙ ap (λ us. counted (length others) (function_item first.place us)) (take-append_seam (first ∷ others) rest)
     ∙ ap (λ r. counted (length others) r) made
 
-cut-fixed : (b : Bool) (h : BareHead) (body : Option Actions) (ts : List Token) → h.fixed ≡ b → IsHead h → FitsBody body
+cut-fixed : (b : Bool) (h : BareHead) (body : Option Actions) (ts : List Token) → h.fixed ≡ b → IsHead h → FitsBody body → BodyWithin body
     → kinds_of ts ≡ static_tokens b ++ (named_tokens left h.returns h.name ++ Mark (codes "(") ∷ (all_params_tokens left h.params ++ Mark (codes ")") ∷ body_tokens left body)) → ItemAs ts (u.function h body)
-cut-fixed true h body ts same is fits e =
+cut-fixed true h body ts same is fits w e =
     let s = head-of (Word (codes "static")) _ ts e in
-    let x = cut-typed h.returns h body s.rest refl is.returns is fits s.rest_kinds in
+    let x = cut-typed h.returns h body s.rest refl is.returns is fits w s.rest_kinds in
     let key_static = ap keyword_of s.first_kind ∙ keys.static_is in
     let got = function (record { fixed = h.fixed; returns = h.returns; name = h.name; place = x.name_place }) x.params x.list x.close in
     let ends : (at : ℕ) (ys : List Token) → item_end at 0 (ts ++ ys) ≡ Some (at + length ts - 1) = λ at ys.
@@ -301,8 +297,8 @@ cut-fixed true h body ts same is fits e =
       whole = s.is;
       reads = λ rest. ap (λ w. item_by w s.first (s.rest ++ rest)) key_static ∙ ended s.first s.rest ts got s.is ends made rest;
     }
-cut-fixed false h body ts same is fits e =
-    let x = cut-typed h.returns h body ts refl is.returns is fits e in
+cut-fixed false h body ts same is fits w e =
+    let x = cut-typed h.returns h body ts refl is.returns is fits w e in
     let got = function (record { fixed = h.fixed; returns = h.returns; name = h.name; place = x.name_place }) x.params x.list x.close in
     let made : function_item x.first.place (x.first ∷ x.others) ≡ Ok got =
     not-static (keyword_of x.first.kind) x.first x.others x.key_is ∙ ap (λ us. function_of x.first.place false us) (sym x.is) ∙ ap (λ b. function_of x.first.place b ts) (sym same) ∙ x.made x.first.place in
@@ -316,11 +312,11 @@ cut-fixed false h body ts same is fits e =
     }
 
 -- a prototype or a definition
-pub cut-function : (h : BareHead) (body : Option Actions) (ts : List Token) → IsHead h → FitsBody body → kinds_of ts ≡ head_tokens left h ++ body_tokens left body → ItemAs ts (u.function h body)
-cut-function h body ts is fits e =
+pub cut-function : (h : BareHead) (body : Option Actions) (ts : List Token) → IsHead h → FitsBody body → BodyWithin body → kinds_of ts ≡ head_tokens left h ++ body_tokens left body → ItemAs ts (u.function h body)
+cut-function h body ts is fits w e =
     let named = named_tokens left h.returns h.name in
     let params = all_params_tokens left h.params in
-    cut-fixed h.fixed h body ts refl is fits
+    cut-fixed h.fixed h body ts refl is fits w
     (e ∙ append_assoc (static_tokens h.fixed) (named ++ Mark (codes "(") ∷ (params ++ Mark (codes ")") ∷ [])) (body_tokens left body)
     ∙ ap (λ ks. static_tokens h.fixed ++ ks) (append_assoc named (Mark (codes "(") ∷ (params ++ Mark (codes ")") ∷ [])) (body_tokens left body)
     ∙ ap (λ ks. named ++ Mark (codes "(") ∷ ks) (append_assoc params (Mark (codes ")") ∷ []) (body_tokens left body))))

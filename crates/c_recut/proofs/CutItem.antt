@@ -1,19 +1,16 @@
--- The tokens of structs and functions are cut into the items.
-use Rattle.std.proofs.Common.{◌≡◌, ℕ, zero, suc, ◌+◌, ◌-◌, ◌==◌, Bool, true, false, cond, not, ◌||◌, List, [], ◌∷◌, ◌++◌, length, take, drop, map, Option, Some, None, is_some, Result, Ok, Err, refl, sym, ap, subst, ◌∙◌, arith, append_assoc, append-nil, add-one, length-append}
+-- The tokens of a struct are cut into the struct, and those of parameters into the parameters.
+use Rattle.std.proofs.Common.{◌≡◌, ℕ, ◌+◌, ◌==◌, Bool, true, false, cond, ◌||◌, List, [], ◌∷◌, ◌++◌, length, take, map, Option, Some, None, Result, Ok, refl, sym, ap, subst, ◌∙◌, arith, append_assoc, append-nil, length-append}
 use Rattle.std.specs.Prelude.{codes, ◌&&◌}
 use Rattle.std.specs.List.{AllByRecursion}
-use Rattle.std.proofs.Math.Seq.{take-append_seam, drop-append_seam, drop-append-add}
+use Rattle.std.proofs.Math.Seq.{take-append_seam, drop-append_seam}
 use Rattle.c_text.specs.declared.place.Place.{Place}
 use Rattle.c_text.specs.declared.token.Token.{Token}
 use Rattle.c_text.specs.declared.token.TokenKind.{TokenKind}
-use Rattle.c_text.specs.declared.token.TokenKind.TheVariants.{Word, Constant as Number, Mark, TypeName, Null, Memset}
-use Rattle.c_text.specs.declared.token.IntType.{IntType}
+use Rattle.c_text.specs.declared.token.TokenKind.TheVariants.{Word, Mark, TypeName}
 use Rattle.c_text.specs.declared.token.Spelled.{Spelled}
-use Rattle.c_text.specs.declared.token.Spelled.TheVariants.{Exact, Size, Plain}
-use Rattle.c_tree.specs.declared.symbol.Bracket.{Bracket}
-use Rattle.c_tree.specs.declared.symbol.Bracket.TheVariants.{Round, Square, Brace}
+use Rattle.c_text.specs.declared.token.Spelled.TheVariants.{Exact}
+use Rattle.c_tree.specs.declared.symbol.Bracket.TheVariants.{Brace}
 use Rattle.c_tree.specs.declared.symbol.Keyword.{Keyword}
-use Rattle.c_tree.specs.declared.statement.Stmt.{Stmt}
 use Rattle.c_tree.specs.declared.item.CType.{CType}
 use Rattle.c_tree.specs.declared.item.CType.TheVariants.{Void, Integer, Pointer}
 use Rattle.c_tree.specs.declared.item.Target.{Target}
@@ -23,34 +20,30 @@ use Rattle.c_tree.specs.declared.item.Item.{Item}
 use Rattle.c_text.specs.Refusal.{Refusal}
 use Rattle.c_tree.specs.Sequence.{Reading, all_read, place_at}
 use Rattle.cg_out.specs.Words.{◌>>=◌, counted}
-use Rattle.c_tree.specs.Symbol.{keyword_in, keyword_of, mark_in, mark_of, name_of, unless_keyword, is_semicolon, is_semicolon_mark, is_star, is_star_mark, is_comma, is_comma_mark}
+use Rattle.c_tree.specs.Symbol.{keyword_in, keyword_of, mark_in, mark_of, is_semicolon, is_semicolon_mark, is_star, is_star_mark, is_comma}
 use Rattle.c_tree.specs.Brackets.{opens, closes, mark_opens, mark_closes, depth_by, depth_after, closing_from, first_outside}
-use Rattle.c_tree.specs.TypeName.{kinds_of, front_type, is_type_word}
-use Rattle.c_tree.specs.ExpressionCut.{Delimited, Closed, closed_in, closed, inside, parts}
-use Rattle.c_tree.specs.StatementCut.{is_void, is_void_key, statements}
-use Rattle.c_parts.specs.StatementPart.{AreStatements}
-use Rattle.c_tree.specs.TokenRun.{depth_over, has_comma, IsClosed}
+use Rattle.c_tree.specs.TypeName.{kinds_of}
+use Rattle.c_tree.specs.ExpressionCut.{closed_in, closed, parts}
+use Rattle.c_tree.specs.StatementCut.{is_void, is_void_key}
+use Rattle.c_tree.specs.TokenRun.{has_comma, IsClosed}
 use Rattle.c_tree.specs.DeclarationCut.{field, named_by, declared_as, integer_by, integer}
-use Rattle.c_tree.specs.StructCut.{struct_field, field_at, each_field, fields_in, fields, struct_item, struct_of, struct_at}
-use Rattle.c_tree.specs.ParameterCut.{is_byte, pointer_by, pointer, struct_pointer_by, struct_pointer, integer_parameter, byte_pointer, is_byte_pointer, parameter_by, parameter_of, maybe_const, parameter, each_parameter, unless_void, is_void_alone, parameters}
-use Rattle.c_tree.specs.FunctionCut.{Tail, prototype, definition, unfinished, body_tail, semicolon_tail, tail_of, function, with_tail, with_parameters, with_name, with_returns, returns_integer, returns_by, function_of, maybe_static, function_item, function_at, FunctionHead as Heading}
-use Rattle.c_tree.specs.UnitCut.{ends_item, item_end, item_by, each_item}
-use Rattle.c_tree.specs.BareStatement.{Actions, actions_of, bare_statement}
-use Rattle.c_tree.specs.BareUnit.{BareField, BareHead, BareItem, bare_field, bare_body, bare_head, bare_item}
-use Rattle.c_tree.proofs.ExpressionTokens.{closing-rest, type-word, depth_over-append}
-use Rattle.c_parts.proofs.ExpressionParts.{closed-none, closed-flat, closed-append, close-at, closed-is, over-one, around-closed, round-opens, round-closes, unlevelled-mark, parts-seam, parts-one}
+use Rattle.c_tree.specs.StructCut.{struct_field, field_at, each_field, fields_in, struct_item, struct_of, struct_at}
+use Rattle.c_tree.specs.ParameterCut.{is_byte, pointer_by, pointer, struct_pointer_by, struct_pointer, byte_pointer, is_byte_pointer, parameter_by, parameter_of, maybe_const, parameter, each_parameter, unless_void, is_void_alone, parameters}
+use Rattle.c_tree.specs.FunctionCut.{function_of, maybe_static, function_at}
+use Rattle.c_tree.specs.UnitCut.{item_end, item_by, each_item}
+use Rattle.c_tree.specs.BareUnit.{BareField, BareItem, bare_field, bare_item}
+use Rattle.c_tree.proofs.ExpressionTokens.{closing-rest}
+use Rattle.c_parts.proofs.ExpressionParts.{closed-none, closed-flat, closed-append, closed-is, over-one, around-closed, unlevelled-mark, parts-seam, parts-one}
 use Rattle.c_parts.proofs.StatementParts.{skip-over, first_outside-append, first_outside-at, brace-opens, brace-closes}
 use Rattle.c_printed.specs.Spelling.{left_type, left}
-use Rattle.c_printed.specs.PrintedExpression.{comma}
-use Rattle.c_printed.specs.PrintedStatement.{actions_tokens}
-use Rattle.c_printed.specs.PrintedItem.{const_tokens, target_tokens, named_tokens, fields_tokens, struct_tokens, params_tokens, all_params_tokens, static_tokens, head_tokens, body_tokens, item_tokens}
-use Rattle.c_printed.specs.PrintableItem.{IsTarget, IsParameterType, IsParameter, IsIntegerType, IsReturned, IsHead, FitsBody}
-use Rattle.c_printed.specs.Printable.{IsFree, FitActions}
-use Rattle.c_recut.proofs.Tokens.{head-of, nil-of, one-of, split-of, between-of, Head as First}
-use Rattle.c_recut.proofs.CutExpression.{name-is, marks, mark-is, type-words}
-use Rattle.c_recut.proofs.CutSimple.{keys, Typed, typed-of, words-closed, keyword-flat}
-use Rattle.c_recut.proofs.CutStatement.{cut-actions}
-use Rattle.c_text.specs.declared.token.IntType.TheVariants as int
+use Rattle.c_printed.specs.PrintedItem.{const_tokens, target_tokens, named_tokens, fields_tokens, struct_tokens, params_tokens, all_params_tokens}
+use Rattle.c_printed.specs.PrintableItem.{IsTarget, IsParameterType, IsParameter, IsIntegerType, IsMember, IsSomeMember}
+use Rattle.c_printed.specs.Printable.{IsFree}
+use Rattle.c_recut.proofs.Tokens.{head-of, nil-of, one-of, split-of, between-of, every-append, every-is}
+use Rattle.c_recut.proofs.Types.{type-all, type-first, free_key, typed-of}
+use Rattle.c_recut.proofs.Quiet.{NoSemicolon, none-outside, and-false}
+use Rattle.c_recut.proofs.CutExpression.{name-is, marks, mark-is}
+use Rattle.c_recut.proofs.CutSimple.{keys, keyword-flat}
 use Rattle.c_tree.specs.declared.symbol.Keyword.TheVariants as key
 use Rattle.c_tree.specs.declared.symbol.Punctuator.TheVariants as mark
 use Rattle.c_tree.specs.declared.item.Item.TheVariants as item
@@ -63,25 +56,12 @@ all-one r x others q v vs e f = ap (λ got. got >>= λ y. all_read r y.1 (others
 
 -- ---- flat tokens
 
-abbrev IsFlat : TokenKind → Type 0
-IsFlat k = (d : ℕ) → depth_after k d ≡ d
-
-flat-closed : (ts : List Token) (ks : List TokenKind) → kinds_of ts ≡ ks → AllByRecursion IsFlat ks → IsClosed ts
-flat-closed ts [] e h = subst IsClosed (sym (nil-of ts e)) closed-none
-flat-closed ts (k ∷ ks) e h =
-    let f = head-of k ks ts e in
-    subst IsClosed (sym f.is) (closed-flat f.first f.rest (λ d. ap (λ x. depth_after x d) f.first_kind ∙ h.0 d) (flat-closed f.rest ks f.rest_kinds h.1))
-
 -- flat, no comma and no semicolon
 pub record Calm (k : TokenKind) : Type 0 where
   pub flat : (d : ℕ) → depth_after k d ≡ d
   pub no_comma : is_comma k ≡ false
   pub no_semicolon : is_semicolon k ≡ false
   pub no_close : closes k ≡ None
-
-pub row : (ks ls : List TokenKind) → AllByRecursion Calm ks → AllByRecursion Calm ls → AllByRecursion Calm (ks ++ ls)
-row [] ls h k = k
-row (x ∷ ks) ls h k = (h.0, row ks ls h.1 k)
 
 pub word-calm : (w : List ℕ) → Calm (Word w)
 word-calm w = record { flat = λ d. refl; no_comma = refl; no_semicolon = refl; no_close = refl }
@@ -91,19 +71,7 @@ unfolding mark_in
 star-calm = record { flat = λ d. refl; no_comma = refl; no_semicolon = refl; no_close = refl }
 
 pub type-calm : (s : Spelled) → AllByRecursion Calm (left_type s)
-type-calm (Exact w b) = (record { flat = λ d. refl; no_comma = refl; no_semicolon = refl; no_close = refl }, tt)
-type-calm Size = (record { flat = λ d. refl; no_comma = refl; no_semicolon = refl; no_close = refl }, tt)
-type-calm (Plain int.Bool) = (word-calm _, tt)
-type-calm (Plain int.SignedChar) = (word-calm _, (word-calm _, tt))
-type-calm (Plain int.UnsignedChar) = (word-calm _, (word-calm _, tt))
-type-calm (Plain int.Short) = (word-calm _, tt)
-type-calm (Plain int.UnsignedShort) = (word-calm _, (word-calm _, tt))
-type-calm (Plain int.Int) = (word-calm _, tt)
-type-calm (Plain int.UnsignedInt) = (word-calm _, (word-calm _, tt))
-type-calm (Plain int.Long) = (word-calm _, tt)
-type-calm (Plain int.UnsignedLong) = (word-calm _, (word-calm _, tt))
-type-calm (Plain int.LongLong) = (word-calm _, (word-calm _, tt))
-type-calm (Plain int.UnsignedLongLong) = (word-calm _, (word-calm _, (word-calm _, tt)))
+type-calm s = type-all Calm word-calm (λ u. record { flat = λ d. refl; no_comma = refl; no_semicolon = refl; no_close = refl }) s
 
 const-calm : (c : Bool) → AllByRecursion Calm (const_tokens c)
 const-calm true = (word-calm _, tt)
@@ -113,18 +81,16 @@ target-calm : (t : Target) → AllByRecursion Calm (target_tokens left t)
 target-calm Byte = type-calm (Exact 8 false)
 target-calm (Struct tag) = (word-calm _, (word-calm _, tt))
 
-pub named-calm : (t : CType) (n : List ℕ) → AllByRecursion Calm (named_tokens left t n)
+named-calm : (t : CType) (n : List ℕ) → AllByRecursion Calm (named_tokens left t n)
 named-calm Void n = (word-calm _, (word-calm _, tt))
-named-calm (Integer s) n = row (left_type s) (Word n ∷ []) (type-calm s) (word-calm n, tt)
-named-calm (Pointer to c) n = row (const_tokens c) _ (const-calm c) (row (target_tokens left to) _ (target-calm to) (star-calm, (word-calm n, tt)))
+named-calm (Integer s) n = every-append Calm (left_type s) (Word n ∷ []) (type-calm s) (word-calm n, tt)
+named-calm (Pointer to c) n = every-append Calm (const_tokens c) _ (const-calm c) (every-append Calm (target_tokens left to) _ (target-calm to) (star-calm, (word-calm n, tt)))
 
-calm-flat : (ks : List TokenKind) → AllByRecursion Calm ks → AllByRecursion IsFlat ks
-calm-flat [] h = tt
-calm-flat (k ∷ ks) h = (h.0.flat, calm-flat ks h.1)
-
-and-false : (b : Bool) → (b && false) ≡ false
-and-false true = refl
-and-false false = refl
+calm-closed : (ts : List Token) (ks : List TokenKind) → kinds_of ts ≡ ks → AllByRecursion Calm ks → IsClosed ts
+calm-closed ts [] e h = subst IsClosed (sym (nil-of ts e)) closed-none
+calm-closed ts (k ∷ ks) e h =
+    let f = head-of k ks ts e in
+    subst IsClosed (sym f.is) (closed-flat f.first f.rest (λ d. ap (λ x. depth_after x d) f.first_kind ∙ h.0.flat d) (calm-closed f.rest ks f.rest_kinds h.1))
 
 calm-comma : (d : ℕ) (ts : List Token) (ks : List TokenKind) → kinds_of ts ≡ ks → AllByRecursion Calm ks → has_comma d ts ≡ false
 calm-comma d [] ks e h = refl
@@ -133,15 +99,6 @@ calm-comma d (t ∷ ts) (k ∷ ks) e h =
     let same : t.kind ≡ k = cc in
     let rest : kinds_of ts ≡ ks = cc in
     ap (λ b. (d == 0 && b) || has_comma (depth_after t.kind d) ts) (ap is_comma same ∙ h.0.no_comma) ∙ ap (λ b. b || has_comma (depth_after t.kind d) ts) (and-false (d == 0)) ∙ calm-comma (depth_after t.kind d) ts ks rest h.1
-
-calm-outside : (at d : ℕ) (ts : List Token) (ks : List TokenKind) → kinds_of ts ≡ ks → AllByRecursion Calm ks → first_outside is_semicolon at d ts ≡ None
-calm-outside at d [] ks e h = refl
-calm-outside at d (t ∷ ts) [] e h = cc
-calm-outside at d (t ∷ ts) (k ∷ ks) e h =
-    let same : t.kind ≡ k = cc in
-    let rest : kinds_of ts ≡ ks = cc in
-    ap (λ b. cond (d == 0 && b) (Some at) (first_outside is_semicolon (at + 1) (depth_after t.kind d) ts)) (ap is_semicolon same ∙ h.0.no_semicolon)
-    ∙ ap (λ b. cond b (Some at) (first_outside is_semicolon (at + 1) (depth_after t.kind d) ts)) (and-false (d == 0)) ∙ calm-outside (at + 1) (depth_after t.kind d) ts ks rest h.1
 
 -- ---- fields
 
@@ -185,8 +142,8 @@ field-one s n [] c q fs h e is more = absurd (empty (left_type s) e)
 field-one s n (x ∷ xs) c q fs h e is more =
     let f = struct-field s n (x ∷ xs) c.place h e in
     let calm = named-calm (Integer s) n in
-    let closed = flat-closed (x ∷ xs) _ e (calm-flat _ calm) in
-    let at : first_outside is_semicolon 0 0 ((x ∷ xs) ++ c ∷ q) ≡ Some (length (x ∷ xs)) = first_outside-at is_semicolon (x ∷ xs) c q closed (calm-outside 0 0 (x ∷ xs) _ e calm) (ap is_semicolon_mark is) in
+    let closed = calm-closed (x ∷ xs) _ e calm in
+    let at : first_outside is_semicolon 0 0 ((x ∷ xs) ++ c ∷ q) ≡ Some (length (x ∷ xs)) = first_outside-at is_semicolon (x ∷ xs) c q closed (none-outside is_semicolon 0 0 (x ∷ xs) _ e (every-is Calm NoSemicolon (λ k c. c.no_semicolon) _ calm)) (ap is_semicolon_mark is) in
     let made = field (Integer s) n f.place in
     let count : length (x ∷ xs) ≡ length (xs ++ c ∷ []) = omega (arith, length-append xs (c ∷ [])) in
     let one : each_field x (xs ++ c ∷ q) ≡ Ok (made, length (xs ++ c ∷ [])) =
@@ -208,7 +165,7 @@ fields-more (Integer s) n fs ps c q i h e is more = field-one s n ps c q fs h e 
 fields-more Void n fs ps c q i h e is more = absurd i
 fields-more (Pointer to b) n fs ps c q i h e is more = absurd i
 
-pub cut-fields : (fs : List BareField) (ts : List Token) → AllByRecursion IsPlainField fs → kinds_of ts ≡ fields_tokens left fs → FieldsAs ts fs
+cut-fields : (fs : List BareField) (ts : List Token) → AllByRecursion IsMember fs → kinds_of ts ≡ fields_tokens left fs → FieldsAs ts fs
 cut-fields [] ts h e = record { list = []; is = refl; given = ap (all_read each_field 0) (nil-of ts e); closed = subst IsClosed (sym (nil-of ts e)) closed-none }
 cut-fields (f ∷ fs) ts h e =
     let p = split-of (named_tokens left f.kind f.name) (Mark (codes ";") ∷ fields_tokens left fs) ts e in
@@ -238,7 +195,7 @@ fields-in : (ts : List Token) (after : Place) (k : TokenKind) (ks : List TokenKi
 fields-in [] after k ks e = cc
 fields-in (t ∷ ts) after k ks e = refl
 
-fields-first : (fs : List BareField) → IsSomeNamed fs → AllByRecursion IsPlainField fs → (k : TokenKind) × (ks : List TokenKind) × (fields_tokens left fs ≡ k ∷ ks)
+fields-first : (fs : List BareField) → IsSomeMember fs → AllByRecursion IsMember fs → (k : TokenKind) × (ks : List TokenKind) × (fields_tokens left fs ≡ k ∷ ks)
 fields-first [] h i = absurd h
 fields-first (f ∷ fs) h i = any (named_tokens left f.kind f.name) (Mark (codes ";") ∷ fields_tokens left fs)
   where
@@ -246,7 +203,7 @@ fields-first (f ∷ fs) h i = any (named_tokens left f.kind f.name) (Mark (codes
     any [] ls = (Mark (codes ";"), fields_tokens left fs, refl)
     any (k ∷ ks) ls = (k, ks ++ Mark (codes ";") ∷ fields_tokens left fs, refl)
 
-pub cut-struct : (tag : List ℕ) (fs : List BareField) (ts : List Token) → IsFree tag → IsSomeNamed fs → AllByRecursion IsPlainField fs → kinds_of ts ≡ struct_tokens left tag fs → ItemAs ts (u.struct tag fs)
+pub cut-struct : (tag : List ℕ) (fs : List BareField) (ts : List Token) → IsFree tag → IsSomeMember fs → AllByRecursion IsMember fs → kinds_of ts ≡ struct_tokens left tag fs → ItemAs ts (u.struct tag fs)
 cut-struct tag fs ts h some all e =
     let w = head-of (Word (codes "struct")) (Word tag ∷ Mark (codes "{") ∷ (fields_tokens left fs ++ Mark (codes "}") ∷ Mark (codes ";") ∷ [])) ts e in
     let n = head-of (Word tag) (Mark (codes "{") ∷ (fields_tokens left fs ++ Mark (codes "}") ∷ Mark (codes ";") ∷ [])) w.rest w.rest_kinds in
@@ -294,17 +251,10 @@ cut-struct tag fs ts h some all e =
 
 -- ---- parameters
 
--- a keyword that begins neither a pointer nor a `static` function
-abbrev pub type_key : Option Keyword → Bool
-type_key (Some key.Const) = false
-type_key (Some key.Struct) = false
-type_key (Some key.Static) = false
-type_key other = true
-
-not-const : (w : Option Keyword) (x : Token) (xs : List Token) → type_key w ≡ true → maybe_const w x xs ≡ parameter_of x.place false (x ∷ xs)
+not-const : (w : Option Keyword) (x : Token) (xs : List Token) → free_key w ≡ true → maybe_const w x xs ≡ parameter_of x.place false (x ∷ xs)
 not-const None x xs h = refl
 not-const (Some key.Bool) x xs h = refl
-not-const (Some key.Break) x xs h = refl
+not-const (Some key.Break) x xs h = cc
 not-const (Some key.Case) x xs h = refl
 not-const (Some key.Char) x xs h = refl
 not-const (Some key.Const) x xs h = cc
@@ -313,7 +263,7 @@ not-const (Some key.Else) x xs h = refl
 not-const (Some key.If) x xs h = refl
 not-const (Some key.Int) x xs h = refl
 not-const (Some key.Long) x xs h = refl
-not-const (Some key.Return) x xs h = refl
+not-const (Some key.Return) x xs h = cc
 not-const (Some key.Short) x xs h = refl
 not-const (Some key.Signed) x xs h = refl
 not-const (Some key.Static) x xs h = cc
@@ -323,10 +273,10 @@ not-const (Some key.Unsigned) x xs h = refl
 not-const (Some key.Void) x xs h = refl
 not-const (Some key.Other) x xs h = refl
 
-not-struct : (w : Option Keyword) (first : Place) (c : Bool) (x : Token) (xs : List Token) → type_key w ≡ true → parameter_by w first c x xs ≡ byte_pointer (is_byte_pointer x xs) first c x xs
+not-struct : (w : Option Keyword) (first : Place) (c : Bool) (x : Token) (xs : List Token) → free_key w ≡ true → parameter_by w first c x xs ≡ byte_pointer (is_byte_pointer x xs) first c x xs
 not-struct None first c x xs h = refl
 not-struct (Some key.Bool) first c x xs h = refl
-not-struct (Some key.Break) first c x xs h = refl
+not-struct (Some key.Break) first c x xs h = cc
 not-struct (Some key.Case) first c x xs h = refl
 not-struct (Some key.Char) first c x xs h = refl
 not-struct (Some key.Const) first c x xs h = cc
@@ -335,7 +285,7 @@ not-struct (Some key.Else) first c x xs h = refl
 not-struct (Some key.If) first c x xs h = refl
 not-struct (Some key.Int) first c x xs h = refl
 not-struct (Some key.Long) first c x xs h = refl
-not-struct (Some key.Return) first c x xs h = refl
+not-struct (Some key.Return) first c x xs h = cc
 not-struct (Some key.Short) first c x xs h = refl
 not-struct (Some key.Signed) first c x xs h = refl
 not-struct (Some key.Static) first c x xs h = cc
@@ -345,10 +295,10 @@ not-struct (Some key.Unsigned) first c x xs h = refl
 not-struct (Some key.Void) first c x xs h = refl
 not-struct (Some key.Other) first c x xs h = refl
 
-pub not-static : (w : Option Keyword) (x : Token) (xs : List Token) → type_key w ≡ true → maybe_static w x xs ≡ function_of x.place false (x ∷ xs)
+pub not-static : (w : Option Keyword) (x : Token) (xs : List Token) → free_key w ≡ true → maybe_static w x xs ≡ function_of x.place false (x ∷ xs)
 not-static None x xs h = refl
 not-static (Some key.Bool) x xs h = refl
-not-static (Some key.Break) x xs h = refl
+not-static (Some key.Break) x xs h = cc
 not-static (Some key.Case) x xs h = refl
 not-static (Some key.Char) x xs h = refl
 not-static (Some key.Const) x xs h = cc
@@ -357,7 +307,7 @@ not-static (Some key.Else) x xs h = refl
 not-static (Some key.If) x xs h = refl
 not-static (Some key.Int) x xs h = refl
 not-static (Some key.Long) x xs h = refl
-not-static (Some key.Return) x xs h = refl
+not-static (Some key.Return) x xs h = cc
 not-static (Some key.Short) x xs h = refl
 not-static (Some key.Signed) x xs h = refl
 not-static (Some key.Static) x xs h = cc
@@ -367,10 +317,10 @@ not-static (Some key.Unsigned) x xs h = refl
 not-static (Some key.Void) x xs h = refl
 not-static (Some key.Other) x xs h = refl
 
-pub not-struct-item : (w : Option Keyword) (x : Token) (xs : List Token) → type_key w ≡ true → item_by w x xs ≡ function_at (item_end 0 0 (x ∷ xs)) x xs
+pub not-struct-item : (w : Option Keyword) (x : Token) (xs : List Token) → free_key w ≡ true → item_by w x xs ≡ function_at (item_end 0 0 (x ∷ xs)) x xs
 not-struct-item None x xs h = refl
 not-struct-item (Some key.Bool) x xs h = refl
-not-struct-item (Some key.Break) x xs h = refl
+not-struct-item (Some key.Break) x xs h = cc
 not-struct-item (Some key.Case) x xs h = refl
 not-struct-item (Some key.Char) x xs h = refl
 not-struct-item (Some key.Const) x xs h = cc
@@ -379,7 +329,7 @@ not-struct-item (Some key.Else) x xs h = refl
 not-struct-item (Some key.If) x xs h = refl
 not-struct-item (Some key.Int) x xs h = refl
 not-struct-item (Some key.Long) x xs h = refl
-not-struct-item (Some key.Return) x xs h = refl
+not-struct-item (Some key.Return) x xs h = cc
 not-struct-item (Some key.Short) x xs h = refl
 not-struct-item (Some key.Signed) x xs h = refl
 not-struct-item (Some key.Static) x xs h = cc
@@ -389,53 +339,10 @@ not-struct-item (Some key.Unsigned) x xs h = refl
 not-struct-item (Some key.Void) x xs h = refl
 not-struct-item (Some key.Other) x xs h = refl
 
--- the first token of a type of integers
-pub record TypeFirst (ks : List TokenKind) : Type 0 where
-  pub kind : TokenKind
-  pub rest : List TokenKind
-  pub is : ks ≡ kind ∷ rest
-  pub key_is : type_key (keyword_of kind) ≡ true
-  pub no_void : is_void kind ≡ false
+abbrev NoStar : TokenKind → Type 0
+NoStar k = is_star k ≡ false
 
-pub type-first : (s : Spelled) → TypeFirst (left_type s)
-unfolding keyword_in
-type-first (Exact w b) = record { kind = TypeName (Exact w b); rest = []; is = refl; key_is = refl; no_void = refl }
-type-first Size = record { kind = TypeName Size; rest = []; is = refl; key_is = refl; no_void = refl }
-type-first (Plain int.Bool) = record { kind = Word (codes "_Bool"); rest = []; is = refl; key_is = refl; no_void = refl }
-type-first (Plain int.SignedChar) = record { kind = Word (codes "signed"); rest = Word (codes "char") ∷ []; is = refl; key_is = refl; no_void = refl }
-type-first (Plain int.UnsignedChar) = record { kind = Word (codes "unsigned"); rest = Word (codes "char") ∷ []; is = refl; key_is = refl; no_void = refl }
-type-first (Plain int.Short) = record { kind = Word (codes "short"); rest = []; is = refl; key_is = refl; no_void = refl }
-type-first (Plain int.UnsignedShort) = record { kind = Word (codes "unsigned"); rest = Word (codes "short") ∷ []; is = refl; key_is = refl; no_void = refl }
-type-first (Plain int.Int) = record { kind = Word (codes "int"); rest = []; is = refl; key_is = refl; no_void = refl }
-type-first (Plain int.UnsignedInt) = record { kind = Word (codes "unsigned"); rest = Word (codes "int") ∷ []; is = refl; key_is = refl; no_void = refl }
-type-first (Plain int.Long) = record { kind = Word (codes "long"); rest = []; is = refl; key_is = refl; no_void = refl }
-type-first (Plain int.UnsignedLong) = record { kind = Word (codes "unsigned"); rest = Word (codes "long") ∷ []; is = refl; key_is = refl; no_void = refl }
-type-first (Plain int.LongLong) = record { kind = Word (codes "long"); rest = Word (codes "long") ∷ []; is = refl; key_is = refl; no_void = refl }
-type-first (Plain int.UnsignedLongLong) = record { kind = Word (codes "unsigned"); rest = Word (codes "long") ∷ Word (codes "long") ∷ []; is = refl; key_is = refl; no_void = refl }
-
-abbrev NoStars : List TokenKind → Type 0
-NoStars ks = AllByRecursion (λ (k : TokenKind). is_star k ≡ false) ks
-
-no-stars : (s : Spelled) → NoStars (left_type s)
-no-stars (Exact w b) = (refl, tt)
-no-stars Size = (refl, tt)
-no-stars (Plain int.Bool) = (refl, tt)
-no-stars (Plain int.SignedChar) = (refl, (refl, tt))
-no-stars (Plain int.UnsignedChar) = (refl, (refl, tt))
-no-stars (Plain int.Short) = (refl, tt)
-no-stars (Plain int.UnsignedShort) = (refl, (refl, tt))
-no-stars (Plain int.Int) = (refl, tt)
-no-stars (Plain int.UnsignedInt) = (refl, (refl, tt))
-no-stars (Plain int.Long) = (refl, tt)
-no-stars (Plain int.UnsignedLong) = (refl, (refl, tt))
-no-stars (Plain int.LongLong) = (refl, (refl, tt))
-no-stars (Plain int.UnsignedLongLong) = (refl, (refl, (refl, tt)))
-
-stars-row : (ks ls : List TokenKind) → NoStars ks → NoStars ls → NoStars (ks ++ ls)
-stars-row [] ls h k = k
-stars-row (x ∷ ks) ls h k = (h.0, stars-row ks ls h.1 k)
-
-no-byte-pointer : (x : Token) (xs : List Token) (ks : List TokenKind) → kinds_of (x ∷ xs) ≡ ks → NoStars ks → is_byte_pointer x xs ≡ false
+no-byte-pointer : (x : Token) (xs : List Token) (ks : List TokenKind) → kinds_of (x ∷ xs) ≡ ks → AllByRecursion NoStar ks → is_byte_pointer x xs ≡ false
 no-byte-pointer x [] ks e h = refl
 no-byte-pointer x (y ∷ ys) [] e h = cc
 no-byte-pointer x (y ∷ ys) (k ∷ []) e h = cc
@@ -452,14 +359,14 @@ parameter-integer s n ts h e =
     let t = type-first s in
     let f = head-of t.kind (t.rest ++ Word n ∷ []) ts (e ∙ ap (λ ks. ks ++ Word n ∷ []) t.is) in
     let r = integer-at f.first.place s n ts h e in
-    let key_is : type_key (keyword_of f.first.kind) ≡ true = ap (λ k. type_key (keyword_of k)) f.first_kind ∙ t.key_is in
-    let pointer_is : is_byte_pointer f.first f.rest ≡ false = no-byte-pointer f.first f.rest (left_type s ++ Word n ∷ []) (ap kinds_of (sym f.is) ∙ e) (stars-row (left_type s) (Word n ∷ []) (no-stars s) (refl, tt)) in
+    let key_is : free_key (keyword_of f.first.kind) ≡ true = ap (λ k. free_key (keyword_of k)) f.first_kind ∙ t.free in
+    let pointer_is : is_byte_pointer f.first f.rest ≡ false = no-byte-pointer f.first f.rest (left_type s ++ Word n ∷ []) (ap kinds_of (sym f.is) ∙ e) (every-append NoStar (left_type s) (Word n ∷ []) (type-all NoStar (λ w. refl) (λ u. refl) s) (refl, tt)) in
     record {
       place = r.place;
       is = λ after.
           ap (λ us. parameter (us, after)) f.is ∙ not-const (keyword_of f.first.kind) f.first f.rest key_is ∙ not-struct (keyword_of f.first.kind) f.first.place false f.first f.rest key_is
           ∙ ap (λ b. byte_pointer b f.first.place false f.first f.rest) pointer_is ∙ ap (integer f.first.place) (sym f.is) ∙ r.is;
-      closed = flat-closed ts _ e (calm-flat _ (named-calm (Integer s) n));
+      closed = calm-closed ts _ e (named-calm (Integer s) n);
       plain = calm-comma 0 ts _ e (named-calm (Integer s) n);
     }
 
@@ -501,7 +408,7 @@ parameter-pointer true to n ts i h e =
     record {
       place = r.place;
       is = λ after. ap (λ us. parameter (us, after)) x.is ∙ ap (λ w. maybe_const w x.first x.rest) (ap keyword_of x.first_kind ∙ keys.const_is) ∙ r.is;
-      closed = flat-closed ts (named_tokens left (Pointer to true) n) e (calm-flat (named_tokens left (Pointer to true) n) (named-calm (Pointer to true) n));
+      closed = calm-closed ts (named_tokens left (Pointer to true) n) e (named-calm (Pointer to true) n);
       plain = calm-comma 0 ts (named_tokens left (Pointer to true) n) e (named-calm (Pointer to true) n);
     }
 parameter-pointer false Byte n ts i h e =
@@ -510,7 +417,7 @@ parameter-pointer false Byte n ts i h e =
     record {
       place = r.place;
       is = λ after. ap (λ us. parameter (us, after)) x.is ∙ ap (λ k. maybe_const (keyword_of k) x.first x.rest) x.first_kind ∙ ap (parameter_of x.first.place false) (sym x.is) ∙ r.is;
-      closed = flat-closed ts (named_tokens left (Pointer Byte false) n) e (calm-flat (named_tokens left (Pointer Byte false) n) (named-calm (Pointer Byte false) n));
+      closed = calm-closed ts (named_tokens left (Pointer Byte false) n) e (named-calm (Pointer Byte false) n);
       plain = calm-comma 0 ts (named_tokens left (Pointer Byte false) n) e (named-calm (Pointer Byte false) n);
     }
 parameter-pointer false (Struct tag) n ts i h e =
@@ -519,7 +426,7 @@ parameter-pointer false (Struct tag) n ts i h e =
     record {
       place = r.place;
       is = λ after. ap (λ us. parameter (us, after)) x.is ∙ ap (λ w. maybe_const w x.first x.rest) (ap keyword_of x.first_kind ∙ keys.struct_is) ∙ ap (parameter_of x.first.place false) (sym x.is) ∙ r.is;
-      closed = flat-closed ts (named_tokens left (Pointer (Struct tag) false) n) e (calm-flat (named_tokens left (Pointer (Struct tag) false) n) (named-calm (Pointer (Struct tag) false) n));
+      closed = calm-closed ts (named_tokens left (Pointer (Struct tag) false) n) e (named-calm (Pointer (Struct tag) false) n);
       plain = calm-comma 0 ts (named_tokens left (Pointer (Struct tag) false) n) e (named-calm (Pointer (Struct tag) false) n);
     }
 

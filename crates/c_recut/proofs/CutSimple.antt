@@ -1,43 +1,45 @@
--- The tokens of statements that end with a semicolon are expression_of into the statements.
-use Rattle.std.proofs.Common.{◌≡◌, ℕ, zero, suc, ◌+◌, ◌-◌, ◌==◌, Bool, true, false, cond, List, [], ◌∷◌, ◌++◌, length, take, drop, map, bytes_eq, Option, Some, None, is_some, Result, Ok, Err, refl, sym, ap, subst, ◌∙◌, arith, append_assoc, append-nil}
+-- The tokens of statements that end with a semicolon are cut into the statements.
+use Rattle.std.proofs.Common.{◌≡◌, ℕ, zero, suc, Bool, true, false, cond, List, [], ◌∷◌, ◌++◌, length, take, drop, Option, Some, None, is_some, Ok, refl, sym, ap, subst, ◌∙◌, arith}
 use Rattle.std.specs.Prelude.{codes, ◌&&◌}
 use Rattle.std.specs.List.{AllByRecursion}
 use Rattle.std.proofs.Math.Seq.{take-append_seam, drop-append_seam}
 use Rattle.c_text.specs.declared.place.Place.{Place}
 use Rattle.c_text.specs.declared.token.Token.{Token}
 use Rattle.c_text.specs.declared.token.TokenKind.{TokenKind}
-use Rattle.c_text.specs.declared.token.TokenKind.TheVariants.{Word, Constant as Number, Mark, TypeName, Null, Memset}
+use Rattle.c_text.specs.declared.token.TokenKind.TheVariants.{Word, Mark}
 use Rattle.c_text.specs.declared.token.Spelled.{Spelled}
-use Rattle.c_text.specs.declared.token.Spelled.TheVariants.{Exact, Size, Plain}
 use Rattle.c_tree.specs.declared.symbol.Keyword.{Keyword}
-use Rattle.c_tree.specs.declared.symbol.Bracket.TheVariants.{Round, Square, Brace}
+use Rattle.c_tree.specs.declared.symbol.Bracket.TheVariants.{Round, Square}
+use Rattle.c_tree.specs.declared.expression.Callee.{Callee}
+use Rattle.c_tree.specs.declared.expression.Callee.TheVariants as callee
 use Rattle.c_tree.specs.declared.expression.Expr.{Expr}
 use Rattle.c_tree.specs.declared.statement.AssignOp.{AssignOp}
 use Rattle.c_tree.specs.declared.statement.Stmt.{Stmt}
 use Rattle.cg_out.specs.Words.{◌>>=◌}
-use Rattle.c_tree.specs.Symbol.{keyword_in, keyword_of, mark_in, mark_of, name_of, callee_of, unless_keyword, is_semicolon, is_semicolon_mark, is_equal, is_equal_mark, is_arrow, is_arrow_mark}
-use Rattle.c_tree.specs.Brackets.{opens, closes, mark_opens, mark_closes, is_bracket, depth_after, closing_from, first_outside}
+use Rattle.c_tree.specs.Symbol.{keyword_in, keyword_of, mark_in, mark_of, name_of, callee_of, is_semicolon, is_equal_mark, is_arrow_mark}
+use Rattle.c_tree.specs.Brackets.{opens, closes, mark_opens, mark_closes, is_bracket, depth_after, first_outside}
 use Rattle.c_tree.specs.Operators.{assignment}
-use Rattle.c_tree.specs.TypeName.{kinds_of, front_type, is_type_word}
-use Rattle.c_tree.specs.ExpressionCut.{Closed, closed_in, closed_by, closed, inside, arguments, expression_of, start, operand}
-use Rattle.c_tree.specs.StatementCut.{is_void, is_void_key, is_else, Simple, declares, discards, calls, assigns, unknown, or_form, declares_value, declares_name, declaration_by, declaration_form, discards_name, discard_form, call_by, call_form, is_one_name, is_target_rest, is_target, assigns_by, assigns_at, is_assignment, assign_by, assignment_form, form_of, stmt, Made, declare, call_statement, assign_statement, by_form, return_of, break_of, simple_by, simple}
+use Rattle.c_tree.specs.TypeName.{kinds_of}
+use Rattle.c_tree.specs.ExpressionCut.{Closed, closed_in, closed, arguments, expression_of, start, operand}
+use Rattle.c_tree.specs.StatementCut.{is_void, is_void_key, is_else, Simple, declares, discards, calls, assigns, unknown, or_form, declares_value, declares_name, declaration_by, declaration_form, discards_name, discard_form, call_by, call_form, is_one_name, is_target_rest, is_target, assigns_by, assigns_at, is_assignment, assign_by, assignment_form, form_of, stmt, by_form, return_of, simple_by, simple}
 use Rattle.c_tree.specs.TokenRun.{IsClosed, is_keyword, begins_type}
-use Rattle.c_parts.specs.ExpressionPart.{IsPart, IsInner}
-use Rattle.c_parts.specs.StatementPart.{IsStatement, begins_simple, plain_key, plain_open}
-use Rattle.c_tree.specs.BareExpression.{Tree, Trees, constant, name, null, member, element, cast, unary, binary, bracket, none, more, bare_expression}
-use Rattle.c_tree.specs.BareStatement.{Action, bare_option, bare_all, bare_statement}
-use Rattle.c_tree.proofs.ExpressionTokens.{suc-not-zero, type-word, inside-room}
-use Rattle.c_parts.proofs.ExpressionParts.{closed-none, closed-flat, closed-append, close-at, around-closed, round-opens, round-closes, unlevelled-mark}
+use Rattle.c_parts.specs.ExpressionPart.{IsPart}
+use Rattle.c_parts.specs.StatementPart.{IsStatement, plain_key, plain_open}
+use Rattle.c_tree.specs.BareExpression.{Tree, Trees, constant, name, null, member, element, cast, unary, binary, bracket, none}
+use Rattle.c_tree.specs.BareStatement.{Action, bare_statement}
+use Rattle.c_tree.proofs.ExpressionTokens.{inside-room}
+use Rattle.c_parts.proofs.ExpressionParts.{closed-none, closed-flat, closed-append, around-closed, round-opens, round-closes, square-closes, unlevelled-mark, closed-is}
 use Rattle.c_parts.proofs.StatementParts.{simple-statement, first_outside-at}
 use Rattle.c_parts.proofs.BareTrees.{bare-declare, bare-assign, bare-call-statement, bare-discard, bare-return, bare-break}
 use Rattle.c_printed.specs.Spelling.{assign_text, left_type, left_callee, left}
 use Rattle.c_printed.specs.PrintedExpression.{tokens_of, all_tokens}
 use Rattle.c_printed.specs.PrintedStatement.{value_tokens, result_tokens}
-use Rattle.c_printed.specs.Printable.{IsFree, IsType, Fits, FitAll, FitsOption, is_target as is_target_tree}
+use Rattle.c_printed.specs.Printable.{IsFree, IsFreeCallee, Fits, FitAll, FitsOption, is_target as is_target_tree}
+use Rattle.c_printed.specs.Within.{Within, AllWithin, OptionWithin}
 use Rattle.c_recut.proofs.Tokens.{Head, head-of, nil-of, one-of, split-of, between-of}
-use Rattle.c_recut.proofs.CutExpression.{CutsAs, InnerAs, cut-tree, cut-inner, name-is, callee-is, marks, mark-is, type-words}
-use Rattle.c_recut.proofs.Quiet.{Quiet, AllQuiet, quiet-append, word-quiet, type-quiet, callee-quiet, quiets, tree-quiet, trees-quiet, none-outside, no-semicolon, no-assignment, front-type, front-none}
-use Rattle.c_text.specs.declared.token.IntType.TheVariants as int
+use Rattle.c_recut.proofs.CutExpression.{CutsAs, cut-tree, cut-inner, name-is, callee-is, marks, mark-is}
+use Rattle.c_recut.proofs.Quiet.{tree-quiet, none-outside, no-assignment, NoSemicolon}
+use Rattle.c_recut.proofs.Types.{type-first, free_key, front-none, Typed, typed-of}
 use Rattle.c_tree.specs.declared.symbol.Keyword.TheVariants as key
 use Rattle.c_tree.specs.declared.symbol.Punctuator.TheVariants as mark
 use Rattle.c_tree.specs.declared.statement.AssignOp.TheVariants as set
@@ -83,7 +85,7 @@ pub record Begins (k : TokenKind) : Type 0 where
   pub no_else : is_else k ≡ false
 
 pub with-semicolon : (may : Bool) (room : ℕ) (kind : TokenKind) (ks : List TokenKind) (x : Action) (ts : List Token) → kinds_of ts ≡ (kind ∷ ks) ++ Mark (codes ";") ∷ [] → Begins kind
-    → AllByRecursion (λ (u : TokenKind). is_semicolon u ≡ false) (kind ∷ ks) → ((us : List Token) → kinds_of us ≡ kind ∷ ks → MadeAs may room us x) → StatementAs may room true ts x
+    → AllByRecursion NoSemicolon (kind ∷ ks) → ((us : List Token) → kinds_of us ≡ kind ∷ ks → MadeAs may room us x) → StatementAs may room true ts x
 with-semicolon may room kind ks x ts e begins quiet make =
     let s = split-of (kind ∷ ks) (Mark (codes ";") ∷ []) ts e in
     let f = head-of kind ks s.left s.left_kinds in
@@ -107,8 +109,8 @@ return-some room place [] e after part = absurd (clash (part.ended start))
     clash e = cc
 return-some room place (t ∷ ts) e after part = ap (λ r. r >>= (λ v. Ok (stmt place (k.Return (Some v))))) (part.cuts after)
 
-pub made-return : (may : Bool) (room : ℕ) (v : Option Tree) (ts : List Token) → FitsOption room v → kinds_of ts ≡ Word (codes "return") ∷ result_tokens left v → MadeAs may room ts (a.return v)
-made-return may room None ts h e =
+pub made-return : (may : Bool) (room : ℕ) (v : Option Tree) (ts : List Token) → FitsOption v → OptionWithin room v → kinds_of ts ≡ Word (codes "return") ∷ result_tokens left v → MadeAs may room ts (a.return v)
+made-return may room None ts h w e =
     let f = head-of (Word (codes "return")) [] ts e in
     let one = one-of (Word (codes "return")) ts f in
     record {
@@ -117,9 +119,9 @@ made-return may room None ts h e =
       made = λ after. ap (λ us. simple may room us after) one ∙ ap (λ w. simple_by w may room f.first [] after) (ap keyword_of f.first_kind ∙ keys.return_is);
       closed = subst IsClosed (sym one) (closed-flat f.first [] (keyword-flat f.first.kind _ f.first_kind) closed-none);
     }
-made-return may room (Some t) ts h e =
+made-return may room (Some t) ts h w e =
     let f = head-of (Word (codes "return")) (tokens_of left t) ts e in
-    let x = cut-tree room 0 t f.rest (omega arith) h f.rest_kinds in
+    let x = cut-tree room 0 t f.rest (omega arith) h w f.rest_kinds in
     record {
       statement = stmt f.first.place (k.Return (Some x.tree));
       is = bare-return f.first.place (Some x.tree) ∙ ap (λ u. a.return (Some u)) x.is;
@@ -142,19 +144,13 @@ made-break room ts e =
 
 -- ---- by form
 
--- a keyword that is neither `return` nor `break`
-abbrev by_key : Option Keyword → Bool
-by_key (Some key.Return) = false
-by_key (Some key.Break) = false
-by_key other = true
-
-formed : (w : Option Keyword) (may : Bool) (room : ℕ) (t : Token) (ts : List Token) (after : Place) → by_key w ≡ true → simple_by w may room t ts after ≡ by_form room t.place (form_of (t ∷ ts)) after
+formed : (w : Option Keyword) (may : Bool) (room : ℕ) (t : Token) (ts : List Token) (after : Place) → free_key w ≡ true → simple_by w may room t ts after ≡ by_form room t.place (form_of (t ∷ ts)) after
 formed None may room t ts after h = refl
 formed (Some key.Bool) may room t ts after h = refl
 formed (Some key.Break) may room t ts after h = cc
 formed (Some key.Case) may room t ts after h = refl
 formed (Some key.Char) may room t ts after h = refl
-formed (Some key.Const) may room t ts after h = refl
+formed (Some key.Const) may room t ts after h = cc
 formed (Some key.Default) may room t ts after h = refl
 formed (Some key.Else) may room t ts after h = refl
 formed (Some key.If) may room t ts after h = refl
@@ -163,81 +159,21 @@ formed (Some key.Long) may room t ts after h = refl
 formed (Some key.Return) may room t ts after h = cc
 formed (Some key.Short) may room t ts after h = refl
 formed (Some key.Signed) may room t ts after h = refl
-formed (Some key.Static) may room t ts after h = refl
-formed (Some key.Struct) may room t ts after h = refl
+formed (Some key.Static) may room t ts after h = cc
+formed (Some key.Struct) may room t ts after h = cc
 formed (Some key.Switch) may room t ts after h = refl
 formed (Some key.Unsigned) may room t ts after h = refl
 formed (Some key.Void) may room t ts after h = refl
 formed (Some key.Other) may room t ts after h = refl
 
 -- the first token has this kind, and the form is this one
-by-the-form : (may : Bool) (room : ℕ) (ts : List Token) (kind : TokenKind) (ks : List TokenKind) (form : Simple) (s : Stmt) (after : Place) → (f : Head kind ks ts) → by_key (keyword_of kind) ≡ true → form_of ts ≡ form
+by-the-form : (may : Bool) (room : ℕ) (ts : List Token) (kind : TokenKind) (ks : List TokenKind) (form : Simple) (s : Stmt) (after : Place) → (f : Head kind ks ts) → free_key (keyword_of kind) ≡ true → form_of ts ≡ form
     → by_form room f.first.place form after ≡ Ok s → simple may room ts after ≡ Ok s
 by-the-form may room ts kind ks form s after f free is made =
-    ap (λ us. simple may room us after) f.is ∙ formed (keyword_of f.first.kind) may room f.first f.rest after (ap (λ u. by_key (keyword_of u)) f.first_kind ∙ free)
+    ap (λ us. simple may room us after) f.is ∙ formed (keyword_of f.first.kind) may room f.first f.rest after (ap (λ u. free_key (keyword_of u)) f.first_kind ∙ free)
     ∙ ap (λ us. by_form room f.first.place (form_of us) after) (sym f.is) ∙ ap (λ x. by_form room f.first.place x after) is ∙ made
 
 -- ---- declarations
-
-abbrev pub HeadedBy : TokenKind → Spelled → Type 0
-HeadedBy kind s = (ks : List TokenKind) × (left_type s ≡ kind ∷ ks) × (by_key (keyword_of kind) ≡ true)
-
-pub first-word : (s : Spelled) → (kind : TokenKind) × HeadedBy kind s
-unfolding keyword_in
-first-word (Exact w b) = (_, ([], refl, refl))
-first-word Size = (_, ([], refl, refl))
-first-word (Plain int.Bool) = (_, (_, refl, refl))
-first-word (Plain int.SignedChar) = (_, (_, refl, refl))
-first-word (Plain int.UnsignedChar) = (_, (_, refl, refl))
-first-word (Plain int.Short) = (_, (_, refl, refl))
-first-word (Plain int.UnsignedShort) = (_, (_, refl, refl))
-first-word (Plain int.Int) = (_, (_, refl, refl))
-first-word (Plain int.UnsignedInt) = (_, (_, refl, refl))
-first-word (Plain int.Long) = (_, (_, refl, refl))
-first-word (Plain int.UnsignedLong) = (_, (_, refl, refl))
-first-word (Plain int.LongLong) = (_, (_, refl, refl))
-first-word (Plain int.UnsignedLongLong) = (_, (_, refl, refl))
-
-name-keyword : (x : List ℕ) → keyword_in x ≡ None → keyword_of (Word x) ≡ None
-name-keyword x e = e
-
--- tokens that open and close nothing
-pub words-closed : (ts : List Token) (ks : List TokenKind) → kinds_of ts ≡ ks → AllByRecursion (λ (k : TokenKind). is_type_word k ≡ true) ks → IsClosed ts
-words-closed ts [] e h = subst IsClosed (sym (nil-of ts e)) closed-none
-words-closed ts (k ∷ ks) e h =
-    let f = head-of k ks ts e in
-    let is = type-word f.first.kind (ap is_type_word f.first_kind ∙ h.0) in
-    subst IsClosed (sym f.is) (closed-flat f.first f.rest is.depth (words-closed f.rest ks f.rest_kinds h.1))
-
-kinds-length : (ts : List Token) → length (kinds_of ts) ≡ length ts
-kinds-length [] = refl
-kinds-length (t ∷ ts) = ap suc (kinds-length ts)
-
--- a type in front, and what stands behind it
-pub record Typed (s : Spelled) (ks : List TokenKind) (ts : List Token) : Type 0 where
-  pub words : List Token
-  pub rest : List Token
-  pub is : ts ≡ words ++ rest
-  pub closed : IsClosed words
-  pub words_kinds : kinds_of words ≡ left_type s
-  pub rest_kinds : kinds_of rest ≡ ks
-  pub front : front_type ts ≡ Some (s, length (left_type s))
-  pub behind : drop (length (left_type s)) ts ≡ rest
-
-pub typed-of : (s : Spelled) (k : TokenKind) (ks : List TokenKind) (ts : List Token) → kinds_of ts ≡ left_type s ++ k ∷ ks → keyword_of k ≡ None → Typed s (k ∷ ks) ts
-typed-of s k ks ts e f =
-    let p = split-of (left_type s) (k ∷ ks) ts e in
-    let count : length (left_type s) ≡ length p.left = ap length (sym p.left_kinds) ∙ kinds-length p.left in
-    record {
-      words = p.left;
-      rest = p.right;
-      is = p.is;
-      closed = words-closed p.left (left_type s) p.left_kinds (type-words s);
-      words_kinds = p.left_kinds;
-      rest_kinds = p.right_kinds;
-      front = front-type s k ks ts e f;
-      behind = (λ i. drop (count i) (p.is i)) ∙ drop-append_seam p.left p.right;
-    }
 
 form-declaration : (ts : List Token) (s : Spelled) (x : List ℕ) (p : Place) (v : Option (List Token)) → declaration_form ts ≡ declares s x p v → form_of ts ≡ declares s x p v
 unfolding form_of
@@ -246,29 +182,29 @@ form-declaration ts s x p v e = ap (λ d. or_form d (or_form (discard_form ts) (
 declares-at : (s : Spelled) (ts : List Token) (k : TokenKind) (ks : List TokenKind) (t : Typed s (k ∷ ks) ts) → declaration_form ts ≡ declares_name s t.rest
 declares-at s ts k ks t = ap (λ f. declaration_by f ts) t.front ∙ ap (declares_name s) t.behind
 
-pub made-declare : (may : Bool) (room : ℕ) (s : Spelled) (x : List ℕ) (v : Option Tree) (ts : List Token) → IsFree x → FitsOption room v → kinds_of ts ≡ left_type s ++ Word x ∷ value_tokens left v → MadeAs may room ts (a.declare s x v)
-made-declare may room s x None ts h g e =
+pub made-declare : (may : Bool) (room : ℕ) (s : Spelled) (x : List ℕ) (v : Option Tree) (ts : List Token) → IsFree x → FitsOption v → OptionWithin room v → kinds_of ts ≡ left_type s ++ Word x ∷ value_tokens left v → MadeAs may room ts (a.declare s x v)
+made-declare may room s x None ts h g i e =
     let t = typed-of s (Word x) [] ts e h.1 in
     let n = head-of (Word x) [] t.rest t.rest_kinds in
     let one = one-of (Word x) t.rest n in
-    let w = first-word s in
-    let f = head-of w.0 (w.1.0 ++ Word x ∷ []) ts (e ∙ ap (λ ks. ks ++ Word x ∷ []) w.1.1) in
+    let w = type-first s in
+    let f = head-of w.kind (w.rest ++ Word x ∷ []) ts (e ∙ ap (λ ks. ks ++ Word x ∷ []) w.is) in
     let found : declaration_form ts ≡ declares s x n.first.place None =
     declares-at s ts (Word x) [] t ∙ ap (declares_name s) one ∙ ap (λ o. declares_value s o n.first.place []) (name-is x n.first.kind n.first_kind h.1) in
     record {
       statement = stmt n.first.place (k.Declare s x None);
       is = bare-declare n.first.place s x None;
-      made = λ after. by-the-form may room ts w.0 (w.1.0 ++ Word x ∷ []) (declares s x n.first.place None) (stmt n.first.place (k.Declare s x None)) after f w.1.2 (form-declaration ts s x n.first.place None found) refl;
+      made = λ after. by-the-form may room ts w.kind (w.rest ++ Word x ∷ []) (declares s x n.first.place None) (stmt n.first.place (k.Declare s x None)) after f w.free (form-declaration ts s x n.first.place None found) refl;
       closed = subst IsClosed (sym (t.is ∙ ap (λ us. t.words ++ us) one)) (closed-append t.words (n.first ∷ []) t.closed (closed-flat n.first [] (keyword-flat n.first.kind x n.first_kind) closed-none));
     }
-made-declare may room s x (Some z) ts h g e =
+made-declare may room s x (Some z) ts h g i e =
     let t = typed-of s (Word x) (Mark (codes "=") ∷ tokens_of left z) ts e h.1 in
     let n = head-of (Word x) (Mark (codes "=") ∷ tokens_of left z) t.rest t.rest_kinds in
     let q = head-of (Mark (codes "=")) (tokens_of left z) n.rest n.rest_kinds in
-    let y = cut-tree room 0 z q.rest (omega arith) g q.rest_kinds in
-    let w = first-word s in
-    let others = w.1.0 ++ Word x ∷ Mark (codes "=") ∷ tokens_of left z in
-    let f = head-of w.0 others ts (e ∙ ap (λ ks. ks ++ Word x ∷ Mark (codes "=") ∷ tokens_of left z) w.1.1) in
+    let y = cut-tree room 0 z q.rest (omega arith) g i q.rest_kinds in
+    let w = type-first s in
+    let others = w.rest ++ Word x ∷ Mark (codes "=") ∷ tokens_of left z in
+    let f = head-of w.kind others ts (e ∙ ap (λ ks. ks ++ Word x ∷ Mark (codes "=") ∷ tokens_of left z) w.is) in
     let rest_is : t.rest ≡ n.first ∷ q.first ∷ q.rest = n.is ∙ ap (λ us. n.first ∷ us) q.is in
     let equals : mark_of q.first.kind ≡ Some mark.Equal = mark-is q.first.kind _ mark.Equal q.first_kind marks.equal_is in
     let form = declares s x n.first.place (Some q.rest) in
@@ -280,13 +216,13 @@ made-declare may room s x (Some z) ts h g e =
     record {
       statement = made;
       is = bare-declare n.first.place s x (Some y.tree) ∙ ap (λ u. a.declare s x (Some u)) y.is;
-      made = λ after. by-the-form may room ts w.0 others form made after f w.1.2 (form-declaration ts s x n.first.place (Some q.rest) found)
+      made = λ after. by-the-form may room ts w.kind others form made after f w.free (form-declaration ts s x n.first.place (Some q.rest) found)
           (ap (λ r. r >>= (λ u. Ok (stmt n.first.place (k.Declare s x (Some u))))) (y.part.cuts after));
       closed = subst IsClosed (sym (t.is ∙ ap (λ us. t.words ++ us) rest_is))
           (closed-append t.words (n.first ∷ q.first ∷ q.rest) t.closed (closed-flat n.first (q.first ∷ q.rest) (keyword-flat n.first.kind x n.first_kind) (closed-flat q.first q.rest (λ d. rw equals refl) y.part.closed)));
     }
 
--- ---- what is no declaration_form
+-- ---- what is no declaration
 
 declaration-none : (ts : List Token) → begins_type ts ≡ false → declaration_form ts ≡ unknown
 declaration-none ts e = ap (λ f. declaration_by f ts) (front-none ts e)
@@ -299,10 +235,10 @@ discard-none : (t : Token) (ts : List Token) → is_bracket Round (opens t.kind)
 discard-none t [] e = refl
 discard-none t (b ∷ []) e = refl
 discard-none t (b ∷ c ∷ []) e = refl
-discard-none t (b ∷ c ∷ d ∷ []) e = ap (λ r. cond (r && (is_void b.kind && is_bracket Round (closes c.kind))) (discards_name (name_of d.kind) d.place) unknown) e
+discard-none t (b ∷ c ∷ d ∷ []) e = ap (λ r. cond (r && (is_void b.kind && is_bracket Round (closes c.kind))) (discards_name (name_of d.kind) d.place t.place) unknown) e
 discard-none t (b ∷ c ∷ d ∷ f ∷ rest) e = refl
 
-pub made-discard : (may : Bool) (room : ℕ) (x : List ℕ) (ts : List Token) → IsFree x → kinds_of ts ≡ Mark (codes "(") ∷ Word (codes "void") ∷ Mark (codes ")") ∷ Word x ∷ [] → MadeAs may room ts (a.discard x)
+pub made-discard : (may : Bool) (room : ℕ) (x : List ℕ) (ts : List Token) → IsFree x → kinds_of ts ≡ Mark (codes "(") ∷ Word (codes "void") ∷ Mark (codes ")") ∷ Word x ∷ [] → MadeAs may (suc room) ts (a.discard x)
 made-discard may room x ts h e =
     let o = head-of (Mark (codes "(")) (Word (codes "void") ∷ Mark (codes ")") ∷ Word x ∷ []) ts e in
     let v = head-of (Word (codes "void")) (Mark (codes ")") ∷ Word x ∷ []) o.rest o.rest_kinds in
@@ -311,68 +247,58 @@ made-discard may room x ts h e =
     let open_is = mark-is o.first.kind _ mark.OpenParen o.first_kind marks.open_is in
     let close_is = mark-is c.first.kind _ mark.CloseParen c.first_kind marks.close_is in
     let whole : ts ≡ o.first ∷ v.first ∷ c.first ∷ n.first ∷ [] = o.is ∙ ap (λ us. o.first ∷ us) (v.is ∙ ap (λ us. v.first ∷ us) (c.is ∙ ap (λ us. c.first ∷ us) (one-of (Word x) c.rest n))) in
-    let form = discards x n.first.place in
+    let form = discards x n.first.place o.first.place in
     let list = o.first ∷ v.first ∷ c.first ∷ n.first ∷ [] in
     let found : discard_form list ≡ form =
-    ap (λ m. cond (is_bracket Round (mark_opens m) && (is_void v.first.kind && is_bracket Round (closes c.first.kind))) (discards_name (name_of n.first.kind) n.first.place) unknown) open_is
-    ∙ ap (λ w. cond (is_void_key w && is_bracket Round (closes c.first.kind)) (discards_name (name_of n.first.kind) n.first.place) unknown) (ap keyword_of v.first_kind ∙ keys.void_is)
-    ∙ ap (λ m. cond (is_bracket Round (mark_closes m)) (discards_name (name_of n.first.kind) n.first.place) unknown) close_is
-    ∙ ap (λ y. discards_name y n.first.place) (name-is x n.first.kind n.first_kind h.1) in
+    ap (λ m. cond (is_bracket Round (mark_opens m) && (is_void v.first.kind && is_bracket Round (closes c.first.kind))) (discards_name (name_of n.first.kind) n.first.place o.first.place) unknown) open_is
+    ∙ ap (λ w. cond (is_void_key w && is_bracket Round (closes c.first.kind)) (discards_name (name_of n.first.kind) n.first.place o.first.place) unknown) (ap keyword_of v.first_kind ∙ keys.void_is)
+    ∙ ap (λ m. cond (is_bracket Round (mark_closes m)) (discards_name (name_of n.first.kind) n.first.place o.first.place) unknown) close_is
+    ∙ ap (λ y. discards_name y n.first.place o.first.place) (name-is x n.first.kind n.first_kind h.1) in
     let untyped : begins_type list ≡ false = ap is_keyword o.first_kind in
     record {
       statement = stmt n.first.place (k.Discard x);
       is = bare-discard n.first.place x;
-      made = λ after. by-the-form may room ts (Mark (codes "(")) (Word (codes "void") ∷ Mark (codes ")") ∷ Word x ∷ []) form (stmt n.first.place (k.Discard x)) after o refl
-          (ap form_of whole ∙ form-behind list form untyped (ap (λ d. or_form d (or_form (call_form list) (assignment_form list))) found)) refl;
+      made = λ after. by-the-form may (suc room) ts (Mark (codes "(")) (Word (codes "void") ∷ Mark (codes ")") ∷ Word x ∷ []) form (stmt n.first.place (k.Discard x)) after o refl
+          (ap form_of whole ∙ form-behind list form untyped (ap (λ d. or_form d (or_form (call_form list) (assignment_form list))) found)) (inside-room room o.first.place (λ r. Ok (stmt n.first.place (k.Discard x))));
       closed = subst IsClosed (sym whole) (around-closed o.first c.first (v.first ∷ []) (n.first ∷ []) (round-opens o.first.kind open_is) (round-closes c.first.kind close_is) (unlevelled-mark c.first.kind mark.CloseParen close_is refl)
           (closed-flat v.first [] (keyword-flat v.first.kind _ v.first_kind) closed-none) (closed-flat n.first [] (keyword-flat n.first.kind x n.first_kind) closed-none));
     }
 
 -- ---- calls
 
-pub closed-is : (c : Token) (p : List Token) → mark_of c.kind ≡ Some mark.CloseParen → IsClosed p → closed (p ++ c ∷ []) ≡ Some (closed_in p c.place)
-closed-is c p e part =
-    ap (λ at. closed_by at (p ++ c ∷ [])) (close-at c p [] (round-closes c.kind e) (unlevelled-mark c.kind mark.CloseParen e refl) part) ∙ rw (take-append_seam, drop-append_seam) refl
+callee-flat : (f : Callee) → (is_bracket Round (opens (left_callee f)) ≡ false) × ((d : ℕ) → depth_after (left_callee f) d ≡ d)
+callee-flat (callee.Name n) = (refl, (λ d. refl))
+callee-flat callee.Memset = (refl, (λ d. refl))
 
-callee-unbracketed : (f : List ℕ) (kind : TokenKind) → kind ≡ left_callee f → (is_bracket Round (opens kind) ≡ false) × ((d : ℕ) → depth_after kind d ≡ d)
-callee-unbracketed f kind e = by (bytes_eq f (codes "memset")) e
-  where
-    by : (b : Bool) → kind ≡ cond b Memset (Word f) → (is_bracket Round (opens kind) ≡ false) × ((d : ℕ) → depth_after kind d ≡ d)
-    by true e = (ap (λ u. is_bracket Round (opens u)) e, (λ d. ap (λ u. depth_after u d) e))
-    by false e = (ap (λ u. is_bracket Round (opens u)) e, (λ d. ap (λ u. depth_after u d) e))
+callee-free : (f : Callee) → IsFreeCallee f → (keyword_of (left_callee f) ≡ None) × (is_keyword (left_callee f) ≡ false)
+callee-free (callee.Name n) h = (h.1, ap (λ (o : Option Keyword). is_some o) h.1)
+callee-free callee.Memset h = (refl, refl)
 
-pub callee-free : (f : List ℕ) → keyword_in f ≡ None → (keyword_of (left_callee f) ≡ None) × (is_keyword (left_callee f) ≡ false)
-callee-free f h = by (bytes_eq f (codes "memset"))
-  where
-    by : (b : Bool) → (keyword_of (cond b Memset (Word f)) ≡ None) × (is_keyword (cond b Memset (Word f)) ≡ false)
-    by true = (refl, refl)
-    by false = (h, ap (λ (o : Option Keyword). is_some o) h)
-
-pub made-call : (may : Bool) (room : ℕ) (f : List ℕ) (us : Trees) (ts : List Token) → IsFree f → FitAll room us → kinds_of ts ≡ left_callee f ∷ Mark (codes "(") ∷ (all_tokens left true us ++ Mark (codes ")") ∷ []) → MadeAs may (suc room) ts (a.call f us)
-made-call may room f us ts h g e =
+pub made-call : (may : Bool) (room : ℕ) (f : Callee) (us : Trees) (ts : List Token) → IsFreeCallee f → FitAll us → AllWithin room us → kinds_of ts ≡ left_callee f ∷ Mark (codes "(") ∷ (all_tokens left true us ++ Mark (codes ")") ∷ []) → MadeAs may (suc room) ts (a.call f us)
+made-call may room f us ts h g w e =
     let n = head-of (left_callee f) (Mark (codes "(") ∷ (all_tokens left true us ++ Mark (codes ")") ∷ [])) ts e in
     let b = between-of (Mark (codes "(")) (all_tokens left true us) (Mark (codes ")")) [] n.rest n.rest_kinds in
-    let x = cut-inner room us b.inner g b.inner_kinds in
+    let x = cut-inner room us b.inner g w b.inner_kinds in
     let open_is = mark-is b.first.kind _ mark.OpenParen b.first_kind marks.open_is in
     let close_is = mark-is b.last.kind _ mark.CloseParen b.last_kind marks.close_is in
     let whole : ts ≡ n.first ∷ b.first ∷ (b.inner ++ b.last ∷ []) = n.is ∙ ap (λ us. n.first ∷ us) (b.is ∙ ap (λ us. b.first ∷ (b.inner ++ b.last ∷ us)) (nil-of b.rest b.rest_kinds)) in
     let list = n.first ∷ b.first ∷ (b.inner ++ b.last ∷ []) in
     let form = calls f n.first.place b.first.place (closed_in b.inner b.last.place) in
-    let bare = callee-unbracketed f n.first.kind n.first_kind in
-    let free = callee-free f h.1 in
+    let flat = callee-flat f in
+    let free = callee-free f h in
     let found : call_form list ≡ form =
     ap (λ m. cond (is_bracket Round (mark_opens m)) (call_by (callee_of n.first.kind) n.first.place b.first.place (closed (b.inner ++ b.last ∷ []))) unknown) open_is
-    ∙ ap (λ o. call_by o n.first.place b.first.place (closed (b.inner ++ b.last ∷ []))) (callee-is f n.first.kind n.first_kind h.1)
-    ∙ ap (λ c. call_by (Some f) n.first.place b.first.place c) (closed-is b.last b.inner close_is x.inner.closed) in
+    ∙ ap (λ o. call_by o n.first.place b.first.place (closed (b.inner ++ b.last ∷ []))) (callee-is f n.first.kind n.first_kind h)
+    ∙ ap (λ c. call_by (Some f) n.first.place b.first.place c) (closed-is b.last b.inner (round-closes b.last.kind close_is) (unlevelled-mark b.last.kind mark.CloseParen close_is refl) x.inner.closed) in
     let made = stmt n.first.place (k.Call f x.trees) in
     record {
       statement = made;
       is = bare-call-statement n.first.place f x.trees ∙ ap (a.call f) x.is;
-      made = λ after. by-the-form may (suc room) ts (left_callee f) _ form made after n (ap by_key free.0)
+      made = λ after. by-the-form may (suc room) ts (left_callee f) _ form made after n (ap free_key free.0)
           (ap form_of whole ∙ form-behind list form (ap is_keyword n.first_kind ∙ free.1)
-          (ap (λ d. or_form d (or_form (call_form list) (assignment_form list))) (discard-none n.first (b.first ∷ (b.inner ++ b.last ∷ [])) bare.0) ∙ ap (λ d. or_form d (assignment_form list)) found))
+          (ap (λ d. or_form d (or_form (call_form list) (assignment_form list))) (discard-none n.first (b.first ∷ (b.inner ++ b.last ∷ [])) (ap (λ u. is_bracket Round (opens u)) n.first_kind ∙ flat.0)) ∙ ap (λ d. or_form d (assignment_form list)) found))
           (ap (λ r. r >>= (λ es. Ok (stmt n.first.place (k.Call f es)))) (inside-room room b.first.place (λ r. arguments expression_of r b.inner b.last.place) ∙ x.inner.given b.last.place));
-      closed = subst IsClosed (sym whole) (closed-flat n.first (b.first ∷ (b.inner ++ b.last ∷ [])) bare.1
+      closed = subst IsClosed (sym whole) (closed-flat n.first (b.first ∷ (b.inner ++ b.last ∷ [])) (λ d. ap (λ u. depth_after u d) n.first_kind ∙ flat.1 d)
           (around-closed b.first b.last b.inner [] (round-opens b.first.kind open_is) (round-closes b.last.kind close_is) (unlevelled-mark b.last.kind mark.CloseParen close_is refl) x.inner.closed closed-none));
     }
 
@@ -409,7 +335,7 @@ assign-flat set.ShiftRight = record { unopened = refl; flat = λ d. refl; semico
 pub assign-semicolon : (o : AssignOp) → is_semicolon (Mark (assign_text o)) ≡ false
 assign-semicolon o = (assign-flat o).semicolon
 
--- a target, expression_of into its name and what stands behind it
+-- a target, cut into its name and what stands behind it
 record TargetAs (room : ℕ) (ts : List Token) (t : Tree) : Type 0 where
   base : List ℕ
   first : Token
@@ -424,12 +350,8 @@ record TargetAs (room : ℕ) (ts : List Token) (t : Tree) : Type 0 where
 call-none : (x y : Token) (zs : List Token) → is_bracket Round (opens y.kind) ≡ false → call_form (x ∷ y ∷ zs) ≡ unknown
 call-none x y zs e = ap (λ b. cond b (call_by (callee_of x.kind) x.place y.place (closed zs)) unknown) e
 
-closed-square : (c : Token) (p : List Token) → mark_of c.kind ≡ Some mark.CloseBracket → IsClosed p → closed (p ++ c ∷ []) ≡ Some (closed_in p c.place)
-closed-square c p e part =
-    ap (λ at. closed_by at (p ++ c ∷ [])) (close-at c p [] (λ d. rw e refl) (unlevelled-mark c.kind mark.CloseBracket e refl) part) ∙ rw (take-append_seam, drop-append_seam) refl
-
-cut-target : (room : ℕ) (t : Tree) (ts : List Token) → is_target_tree t ≡ true → Fits room 0 t → kinds_of ts ≡ tokens_of left t → TargetAs room ts t
-cut-target room (name n) ts q h e =
+cut-target : (room : ℕ) (t : Tree) (ts : List Token) → is_target_tree t ≡ true → Fits 0 t → Within room t → kinds_of ts ≡ tokens_of left t → TargetAs room ts t
+cut-target room (name n) ts q h w e =
     let a = head-of (Word n) [] ts e in
     let one = one-of (Word n) ts a in
     record {
@@ -441,9 +363,9 @@ cut-target room (name n) ts q h e =
       free = h.1;
       fits = ap is_target one ∙ ap (λ o. is_some o && true) (name-is n a.first.kind a.first_kind h.1);
       next = λ y ys f. call-none a.first y ys f;
-      tree = cut-tree room 0 (name n) ts (omega arith) h e;
+      tree = cut-tree room 0 (name n) ts (omega arith) h w e;
     }
-cut-target room (member base field) ts q h e =
+cut-target room (member base field) ts q h w e =
     let a = head-of (Word base) (Mark (codes "->") ∷ Word field ∷ []) ts e in
     let b = head-of (Mark (codes "->")) (Word field ∷ []) a.rest a.rest_kinds in
     let c = head-of (Word field) [] b.rest b.rest_kinds in
@@ -461,13 +383,13 @@ cut-target room (member base field) ts q h e =
           ∙ ap (λ m. cond (is_bracket Square (mark_opens m)) (is_some (closed (c.first ∷ []))) (is_arrow_mark m && is_one_name (c.first ∷ []))) arrow_is
           ∙ ap (λ (o : Option (List ℕ)). is_some o) (name-is field c.first.kind c.first_kind h.1.1);
       next = λ y ys f. call-none a.first b.first (c.first ∷ y ∷ ys) (ap (λ m. is_bracket Round (mark_opens m)) arrow_is);
-      tree = cut-tree room 0 (member base field) ts (omega arith) h e;
+      tree = cut-tree room 0 (member base field) ts (omega arith) h w e;
     }
-cut-target zero (element base i) ts q h e = absurd h
-cut-target (suc room) (element base i) ts q h e =
+cut-target zero (element base i) ts q h w e = absurd w
+cut-target (suc room) (element base i) ts q h w e =
     let a = head-of (Word base) (Mark (codes "[") ∷ (tokens_of left i ++ Mark (codes "]") ∷ [])) ts e in
     let b = between-of (Mark (codes "[")) (tokens_of left i) (Mark (codes "]")) [] a.rest a.rest_kinds in
-    let x = cut-tree room 0 i b.inner (omega arith) h.1 b.inner_kinds in
+    let x = cut-tree room 0 i b.inner (omega arith) h.1 w b.inner_kinds in
     let open_is = mark-is b.first.kind _ mark.OpenBracket b.first_kind marks.open_square in
     let close_is = mark-is b.last.kind _ mark.CloseBracket b.last_kind marks.close_square in
     let rest = b.inner ++ b.last ∷ [] in
@@ -482,24 +404,24 @@ cut-target (suc room) (element base i) ts q h e =
       fits =
           ap is_target whole ∙ ap (λ o. is_some o && is_target_rest (b.first ∷ rest)) (name-is base a.first.kind a.first_kind h.0.1)
           ∙ ap (λ m. cond (is_bracket Square (mark_opens m)) (is_some (closed rest)) (is_arrow_mark m && is_one_name rest)) open_is
-          ∙ ap (λ (o : Option Closed). is_some o) (closed-square b.last b.inner close_is x.part.closed);
+          ∙ ap (λ (o : Option Closed). is_some o) (closed-is b.last b.inner (square-closes b.last.kind close_is) (unlevelled-mark b.last.kind mark.CloseBracket close_is refl) x.part.closed);
       next = λ y ys f. call-none a.first b.first (rest ++ y ∷ ys) (ap (λ m. is_bracket Round (mark_opens m)) open_is);
-      tree = cut-tree (suc room) 0 (element base i) ts (omega arith) h e;
+      tree = cut-tree (suc room) 0 (element base i) ts (omega arith) h w e;
     }
-cut-target room null ts q h e = cc
-cut-target room (constant c) ts q h e = cc
-cut-target room (t.call f us) ts q h e = cc
-cut-target room (unary u x) ts q h e = cc
-cut-target room (cast to x) ts q h e = cc
-cut-target room (binary o l r) ts q h e = cc
-cut-target room (bracket x) ts q h e = cc
+cut-target room null ts q h w e = cc
+cut-target room (constant c) ts q h w e = cc
+cut-target room (t.call f us) ts q h w e = cc
+cut-target room (unary u x) ts q h w e = cc
+cut-target room (cast to x) ts q h w e = cc
+cut-target room (binary o l r) ts q h w e = cc
+cut-target room (bracket x) ts q h w e = cc
 
-pub made-assign : (may : Bool) (room : ℕ) (t : Tree) (o : AssignOp) (v : Tree) (ts : List Token) → is_target_tree t ≡ true → Fits room 0 t → Fits room 0 v → kinds_of ts ≡ tokens_of left t ++ Mark (assign_text o) ∷ tokens_of left v → MadeAs may room ts (a.assign t o v)
-made-assign may room t o v ts q h g e =
+pub made-assign : (may : Bool) (room : ℕ) (t : Tree) (o : AssignOp) (v : Tree) (ts : List Token) → is_target_tree t ≡ true → Fits 0 t → Within room t → Fits 0 v → Within room v → kinds_of ts ≡ tokens_of left t ++ Mark (assign_text o) ∷ tokens_of left v → MadeAs may room ts (a.assign t o v)
+made-assign may room t o v ts q h w g z e =
     let s = split-of (tokens_of left t) (Mark (assign_text o) ∷ tokens_of left v) ts e in
     let m = head-of (Mark (assign_text o)) (tokens_of left v) s.right s.right_kinds in
-    let x = cut-target room t s.left q h s.left_kinds in
-    let y = cut-tree room 0 v m.rest (omega arith) g m.rest_kinds in
+    let x = cut-target room t s.left q h w s.left_kinds in
+    let y = cut-tree room 0 v m.rest (omega arith) g z m.rest_kinds in
     let flat = assign-flat o in
     let op_is : assignment m.first.kind ≡ Some o = ap assignment m.first_kind ∙ assign-is o in
     let whole : ts ≡ s.left ++ m.first ∷ m.rest = s.is ∙ ap (λ us. s.left ++ us) m.is in
@@ -522,7 +444,7 @@ made-assign may room t o v ts q h g e =
     record {
       statement = made;
       is = bare-assign m.first.place x.tree.tree o y.tree ∙ (λ i. a.assign (x.tree.is i) o (y.is i));
-      made = λ after. by-the-form may room ts (Word x.base) (kinds_of (x.others ++ m.first ∷ m.rest)) form made after f (ap by_key x.free)
+      made = λ after. by-the-form may room ts (Word x.base) (kinds_of (x.others ++ m.first ∷ m.rest)) form made after f (ap free_key x.free)
           (form-behind ts form untyped (ap (λ d. or_form d (or_form (call_form ts) (assignment_form ts))) no_discard ∙ ap (λ d. or_form d (assignment_form ts)) no_call ∙ found))
           (ap (λ r. r >>= (λ a. expression_of room m.rest after >>= (λ b. Ok (stmt m.first.place (k.Assign a o b))))) (x.tree.part.cuts m.first.place)
           ∙ ap (λ r. r >>= (λ b. Ok (stmt m.first.place (k.Assign x.tree.tree o b)))) (y.part.cuts after));

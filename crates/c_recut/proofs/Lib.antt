@@ -1,4 +1,5 @@
 pub mod Tokens
+pub mod Types
 pub mod CutExpression
 pub mod Quiet
 pub mod CutSimple
@@ -6,4 +7,5 @@ pub mod CutStatement
 pub mod CutItem
 pub mod CutFunction
 pub mod Matching
+pub mod CutUnit
 pub mod PairLaw

@@ -1,15 +1,16 @@
--- The brackets in the tokens of a unit match, and no more are open than the trees say.
-use Rattle.std.proofs.Common.{◌≡◌, ℕ, zero, suc, ◌+◌, ◌-◌, ◌==◌, ◌<◌, ◌≤◌, Bool, true, false, cond, List, [], ◌∷◌, ◌++◌, length, bytes_eq, Option, Some, None, refl, sym, ap, subst, ◌∙◌, arith, append_assoc, append-nil, length-append}
-use Rattle.std.specs.Prelude.{codes, nat_lt}
+-- The brackets in the tokens of a unit match.
+use Rattle.std.proofs.Common.{◌≡◌, ℕ, ◌+◌, Bool, true, false, cond, List, [], ◌∷◌, ◌++◌, length, Option, Some, None, refl, sym, ap, ◌∙◌, arith, append_assoc, append-nil, length-append}
+use Rattle.std.specs.Prelude.{codes}
 use Rattle.std.specs.List.{AllByRecursion}
-use Rattle.std.proofs.lemmas.Bool.Decides.{nat_tests}
 use Rattle.c_text.specs.declared.token.Token.{Token}
 use Rattle.c_text.specs.declared.token.TokenKind.{TokenKind}
-use Rattle.c_text.specs.declared.token.TokenKind.TheVariants.{Word, Constant as Number, Mark, TypeName, Null, Memset}
+use Rattle.c_text.specs.declared.token.TokenKind.TheVariants.{Word, Constant as Number, Mark, Null}
 use Rattle.c_text.specs.declared.token.Spelled.{Spelled}
-use Rattle.c_text.specs.declared.token.Spelled.TheVariants.{Exact, Size, Plain}
+use Rattle.c_text.specs.declared.token.Spelled.TheVariants.{Exact}
 use Rattle.c_tree.specs.declared.symbol.Bracket.{Bracket}
 use Rattle.c_tree.specs.declared.symbol.Bracket.TheVariants.{Round, Square, Brace}
+use Rattle.c_tree.specs.declared.expression.Callee.{Callee}
+use Rattle.c_tree.specs.declared.expression.Callee.TheVariants as callee
 use Rattle.c_tree.specs.declared.expression.UnaryOp.{UnaryOp}
 use Rattle.c_tree.specs.declared.expression.BinaryOp.{BinaryOp}
 use Rattle.c_tree.specs.declared.statement.AssignOp.{AssignOp}
@@ -18,40 +19,38 @@ use Rattle.c_tree.specs.declared.item.CType.TheVariants.{Void, Integer, Pointer}
 use Rattle.c_tree.specs.declared.item.Target.{Target}
 use Rattle.c_tree.specs.declared.item.Target.TheVariants.{Byte, Struct}
 use Rattle.c_tree.specs.Symbol.{mark_in}
-use Rattle.c_tree.specs.Brackets.{opens, closes, depth_by, depth_after, same_bracket, Open, within, walk_by, close_by, mismatch, deep_from, fault_at, unfit, syntax, too_deep, bracket_fault, fault_of}
-use Rattle.c_tree.specs.declared.symbol.TheConstants.{MOST_OPEN}
+use Rattle.c_tree.specs.Brackets.{opens, closes, same_bracket, Open, within, walk_by, mismatch, deep_from, unfit, syntax, bracket_fault, fault_of}
 use Rattle.c_tree.specs.TypeName.{kinds_of}
 use Rattle.c_tree.specs.BareExpression.{Tree, Trees, constant, name, null, member, element, call, unary, cast, binary, bracket, none, more}
 use Rattle.c_tree.specs.BareStatement.{Action, Actions, Parts, declare, assign, discard, empty, block, when, choose, return, break, switch, no_more, then, done, label, statement}
-use Rattle.c_tree.specs.BareUnit.{BareField, BareHead}
+use Rattle.c_tree.specs.BareStatement as a
+use Rattle.c_tree.specs.BareUnit.{BareField, BareHead, BareItem, struct, function}
 use Rattle.c_printed.specs.Spelling.{sign_text, operator_text, assign_text, left_type, left_callee, left}
 use Rattle.c_printed.specs.PrintedExpression.{comma, tokens_of, all_tokens}
 use Rattle.c_printed.specs.PrintedStatement.{value_tokens, result_tokens, label_tokens, action_tokens, actions_tokens, parts_tokens}
-use Rattle.c_printed.specs.PrintedItem.{const_tokens, target_tokens, named_tokens, fields_tokens, struct_tokens, params_tokens, all_params_tokens, static_tokens, head_tokens, body_tokens}
-use Rattle.c_printed.specs.PrintableItem.{FitsBody}
-use Rattle.c_printed.specs.Printable.{IsCase, Fits, FitAll, FitsOption, FitsAction, FitsBlock, FitActions, FitParts}
+use Rattle.c_printed.specs.PrintedItem.{const_tokens, target_tokens, named_tokens, fields_tokens, params_tokens, all_params_tokens, static_tokens, head_tokens, body_tokens, item_tokens}
+use Rattle.c_printed.specs.Reread.{items_tokens}
+use Rattle.c_recut.proofs.Types.{type-all}
 use Rattle.c_recut.proofs.Tokens.{head-of, nil-of, split-of}
-use Rattle.c_text.specs.declared.token.IntType.TheVariants as int
 use Rattle.c_tree.specs.declared.expression.UnaryOp.TheVariants as sign
 use Rattle.c_tree.specs.declared.expression.BinaryOp.TheVariants as op
 use Rattle.c_tree.specs.declared.statement.AssignOp.TheVariants as set
-use Rattle.c_tree.specs.BareStatement as a
 
 -- ---- tokens with brackets that match
 
-pub record Matched (room : ℕ) (ks : List TokenKind) : Type 0 where
-  pub walks : (ts : List Token) → kinds_of ts ≡ ks → (at : ℕ) (os : List Open) (rest : List Token) → mismatch at (within os) (ts ++ rest) ≡ mismatch (at + length ts) (within os) rest
+record Matched (ks : List TokenKind) : Type 0 where
+  walks : (ts : List Token) → kinds_of ts ≡ ks → (at : ℕ) (os : List Open) (rest : List Token) → mismatch at (within os) (ts ++ rest) ≡ mismatch (at + length ts) (within os) rest
 
-pub m-none : (room : ℕ) → Matched room []
-m-none room = record {
+m-none : Matched []
+m-none = record {
   walks = λ ts e at os rest. let z : at ≡ at + 0 = omega arith in ap (λ us. mismatch at (within os) (us ++ rest)) (nil-of ts e) ∙ ap (λ n. mismatch n (within os) rest) z ∙ ap (λ us. mismatch (at + length us) (within os) rest) (sym (nil-of ts e));
 }
 
-abbrev pub IsFlat : TokenKind → Type 0
+abbrev IsFlat : TokenKind → Type 0
 IsFlat k = (opens k ≡ None) × (closes k ≡ None)
 
-m-flat : (room : ℕ) (k : TokenKind) (ks : List TokenKind) → IsFlat k → Matched room ks → Matched room (k ∷ ks)
-m-flat room k ks f m = record {
+m-flat : (k : TokenKind) (ks : List TokenKind) → IsFlat k → Matched ks → Matched (k ∷ ks)
+m-flat k ks f m = record {
   walks = λ ts e at os rest.
       let t = head-of k ks ts e in
       let n : at + 1 + length t.rest ≡ at + length (t.first ∷ t.rest) = omega arith in
@@ -61,8 +60,8 @@ m-flat room k ks f m = record {
       ∙ m.walks t.rest t.rest_kinds (at + 1) os rest ∙ ap (λ x. mismatch x (within os) rest) n ∙ ap (λ us. mismatch (at + length us) (within os) rest) (sym t.is);
 }
 
-pub m-row : (room : ℕ) (ks ls : List TokenKind) → Matched room ks → Matched room ls → Matched room (ks ++ ls)
-m-row room ks ls m n = record {
+m-row : (ks ls : List TokenKind) → Matched ks → Matched ls → Matched (ks ++ ls)
+m-row ks ls m n = record {
   walks = λ ts e at os rest.
       let s = split-of ks ls ts e in
       let z : at + length s.left + length s.right ≡ at + length (s.left ++ s.right) = omega (arith, length-append s.left s.right) in
@@ -78,8 +77,8 @@ record Pair (o c : TokenKind) : Type 0 where
   c_closes : closes c ≡ Some kind
   same : same_bracket kind kind ≡ true
 
-m-closing : (room : ℕ) (o c : TokenKind) (ks ls : List TokenKind) → Pair o c → Matched room ks → Matched (suc room) ls → Matched (suc room) (o ∷ (ks ++ c ∷ ls))
-m-closing room o c ks ls p m n = record {
+m-closing : (o c : TokenKind) (ks ls : List TokenKind) → Pair o c → Matched ks → Matched ls → Matched (o ∷ (ks ++ c ∷ ls))
+m-closing o c ks ls p m n = record {
   walks = λ ts e at os rest.
       let t = head-of o (ks ++ c ∷ ls) ts e in
       let s = split-of ks (c ∷ ls) t.rest t.rest_kinds in
@@ -156,159 +155,135 @@ assign-flat set.Subtract = (refl, refl)
 assign-flat set.ShiftLeft = (refl, refl)
 assign-flat set.ShiftRight = (refl, refl)
 
-word : (room : ℕ) (w : List ℕ) (ks : List TokenKind) → Matched room ks → Matched room (Word w ∷ ks)
-word room w ks m = m-flat room (Word w) ks (refl, refl) m
+word : (w : List ℕ) (ks : List TokenKind) → Matched ks → Matched (Word w ∷ ks)
+word w ks m = m-flat (Word w) ks (refl, refl) m
 
-pub m-type : (room : ℕ) (s : Spelled) → Matched room (left_type s)
-m-type room (Exact w b) = m-flat room _ [] (refl, refl) (m-none room)
-m-type room Size = m-flat room _ [] (refl, refl) (m-none room)
-m-type room (Plain int.Bool) = (word room _ _ (m-none room))
-m-type room (Plain int.SignedChar) = (word room _ _ (word room _ _ (m-none room)))
-m-type room (Plain int.UnsignedChar) = (word room _ _ (word room _ _ (m-none room)))
-m-type room (Plain int.Short) = (word room _ _ (m-none room))
-m-type room (Plain int.UnsignedShort) = (word room _ _ (word room _ _ (m-none room)))
-m-type room (Plain int.Int) = (word room _ _ (m-none room))
-m-type room (Plain int.UnsignedInt) = (word room _ _ (word room _ _ (m-none room)))
-m-type room (Plain int.Long) = (word room _ _ (m-none room))
-m-type room (Plain int.UnsignedLong) = (word room _ _ (word room _ _ (m-none room)))
-m-type room (Plain int.LongLong) = (word room _ _ (word room _ _ (m-none room)))
-m-type room (Plain int.UnsignedLongLong) = (word room _ _ (word room _ _ (word room _ _ (m-none room))))
+m-flats : (ks : List TokenKind) → AllByRecursion IsFlat ks → Matched ks
+m-flats [] h = m-none
+m-flats (k ∷ ks) h = m-flat k ks h.0 (m-flats ks h.1)
 
-callee-flat : (f : List ℕ) → IsFlat (left_callee f)
-callee-flat f = by (bytes_eq f (codes "memset"))
-  where
-    by : (b : Bool) → IsFlat (cond b Memset (Word f))
-    by true = (refl, refl)
-    by false = (refl, refl)
+m-type : (s : Spelled) → Matched (left_type s)
+m-type s = m-flats (left_type s) (type-all IsFlat (λ w. (refl, refl)) (λ u. (refl, refl)) s)
 
-m-comma : (room : ℕ) (b : Bool) → Matched room (comma b)
-m-comma room true = m-none room
-m-comma room false = m-flat room _ [] pairs.f_comma (m-none room)
+callee-flat : (f : Callee) → IsFlat (left_callee f)
+callee-flat (callee.Name n) = (refl, refl)
+callee-flat callee.Memset = (refl, refl)
+
+m-comma : (b : Bool) → Matched (comma b)
+m-comma true = m-none
+m-comma false = m-flat _ [] pairs.f_comma m-none
 
 -- ---- expressions
 
 mutual
-  pub m-tree : (room bound : ℕ) (t : Tree) → Fits room bound t → Matched room (tokens_of left t)
-  m-tree room bound (constant c) h = m-flat room (Number c) [] (refl, refl) (m-none room)
-  m-tree room bound (name n) h = word room n [] (m-none room)
-  m-tree room bound null h = m-flat room Null [] (refl, refl) (m-none room)
-  m-tree room bound (member base field) h = word room base _ (m-flat room _ _ pairs.f_arrow (word room field [] (m-none room)))
-  m-tree zero bound (element base i) h = absurd h
-  m-tree (suc room) bound (element base i) h = word (suc room) base _ (m-closing room _ _ (tokens_of left i) [] pairs.square (m-tree room 0 i h.1) (m-none (suc room)))
-  m-tree zero bound (call f ts) h = absurd h
-  m-tree (suc room) bound (call f ts) h = m-flat (suc room) (left_callee f) _ (callee-flat f) (m-closing room _ _ (all_tokens left true ts) [] pairs.round (m-trees room true ts h.1) (m-none (suc room)))
-  m-tree room bound (unary u x) h = m-flat room _ _ (sign-flat u) (m-tree room 9 x h.1)
-  m-tree zero bound (cast to x) h = absurd h
-  m-tree (suc room) bound (cast to x) h = m-closing room _ _ (left_type to) (tokens_of left x) pairs.round (m-type room to) (m-tree (suc room) 9 x h.1)
-  m-tree room bound (binary o l r) h = m-row room (tokens_of left l) _ (m-tree room _ l h.1) (m-flat room _ _ (operator-flat o) (m-tree room _ r h.2))
-  m-tree zero bound (bracket x) h = absurd h
-  m-tree (suc room) bound (bracket x) h = m-closing room _ _ (tokens_of left x) [] pairs.round (m-tree room 0 x h) (m-none (suc room))
+  m-tree : (t : Tree) → Matched (tokens_of left t)
+  m-tree (constant c) = m-flat (Number c) [] (refl, refl) m-none
+  m-tree (name n) = word n [] m-none
+  m-tree null = m-flat Null [] (refl, refl) m-none
+  m-tree (member base field) = word base _ (m-flat _ _ pairs.f_arrow (word field [] m-none))
+  m-tree (element base i) = word base _ (m-closing _ _ (tokens_of left i) [] pairs.square (m-tree i) m-none)
+  m-tree (call f ts) = m-flat (left_callee f) _ (callee-flat f) (m-closing _ _ (all_tokens left true ts) [] pairs.round (m-trees true ts) m-none)
+  m-tree (unary u x) = m-flat _ _ (sign-flat u) (m-tree x)
+  m-tree (cast to x) = m-closing _ _ (left_type to) (tokens_of left x) pairs.round (m-type to) (m-tree x)
+  m-tree (binary o l r) = m-row (tokens_of left l) _ (m-tree l) (m-flat _ _ (operator-flat o) (m-tree r))
+  m-tree (bracket x) = m-closing _ _ (tokens_of left x) [] pairs.round (m-tree x) m-none
 
-  pub m-trees : (room : ℕ) (first : Bool) (ts : Trees) → FitAll room ts → Matched room (all_tokens left first ts)
-  m-trees room first none h = m-none room
-  m-trees room first (more t ts) h = m-row room (comma first) _ (m-comma room first) (m-row room (tokens_of left t) _ (m-tree room 0 t h.0) (m-trees room false ts h.1))
+  m-trees : (first : Bool) (ts : Trees) → Matched (all_tokens left first ts)
+  m-trees first none = m-none
+  m-trees first (more t ts) = m-row (comma first) _ (m-comma first) (m-row (tokens_of left t) _ (m-tree t) (m-trees false ts))
 
 -- ---- statements
 
-m-end : (room : ℕ) → Matched room (Mark (codes ";") ∷ [])
-m-end room = m-flat room _ [] pairs.f_semicolon (m-none room)
+m-end : Matched (Mark (codes ";") ∷ [])
+m-end = m-flat _ [] pairs.f_semicolon m-none
 
-m-value : (room : ℕ) (v : Option Tree) → FitsOption room v → Matched room (value_tokens left v)
-m-value room None h = m-none room
-m-value room (Some t) h = m-flat room _ _ pairs.f_equal (m-tree room 0 t h)
+m-value : (v : Option Tree) → Matched (value_tokens left v)
+m-value None = m-none
+m-value (Some t) = m-flat _ _ pairs.f_equal (m-tree t)
 
-m-result : (room : ℕ) (v : Option Tree) → FitsOption room v → Matched room (result_tokens left v)
-m-result room None h = m-none room
-m-result room (Some t) h = m-tree room 0 t h
+m-result : (v : Option Tree) → Matched (result_tokens left v)
+m-result None = m-none
+m-result (Some t) = m-tree t
 
-m-case : (room : ℕ) (t : Tree) → IsCase room t → Matched room (tokens_of left t)
-m-case room (constant c) h = m-flat room (Number c) [] (refl, refl) (m-none room)
-m-case room (unary sign.Minus (constant c)) h = m-flat room _ _ (sign-flat sign.Minus) (m-flat room (Number c) [] (refl, refl) (m-none room))
-m-case room _ h = absurd h
+m-label : (v : Option Tree) → Matched (label_tokens left v)
+m-label None = word _ [] m-none
+m-label (Some t) = word _ _ (m-tree t)
 
 mutual
-  pub m-action : (may : Bool) (room : ℕ) (x : Action) → FitsAction may room x → Matched room (action_tokens left x)
-  m-action may room (declare s x v) h = m-row room (left_type s) _ (m-type room s) (word room x _ (m-row room (value_tokens left v) _ (m-value room v h.2) (m-end room)))
-  m-action may room (assign t o v) h = m-row room (tokens_of left t) _ (m-tree room 0 t h.1) (m-flat room _ _ (assign-flat o) (m-row room (tokens_of left v) _ (m-tree room 0 v h.2) (m-end room)))
-  m-action may zero (a.call f ts) h = absurd h
-  m-action may (suc room) (a.call f ts) h = m-flat (suc room) (left_callee f) _ (callee-flat f) (m-closing room _ _ (all_tokens left true ts) _ pairs.round (m-trees room true ts h.1) (m-end (suc room)))
-  m-action may zero (discard x) h = absurd h
-  m-action may (suc room) (discard x) h = m-closing room _ _ (Word (codes "void") ∷ []) _ pairs.round (word room _ [] (m-none room)) (word (suc room) x _ (m-end (suc room)))
-  m-action may room empty h = m-end room
-  m-action may zero (block list) h = absurd h
-  m-action may (suc room) (block list) h = m-closing room _ _ (actions_tokens left list) [] pairs.brace (m-actions may room list h) (m-none (suc room))
-  m-action may zero (when c x) h = absurd h
-  m-action may (suc room) (when c x) h = word (suc room) _ _ (m-closing room _ _ (tokens_of left c) _ pairs.round (m-tree room 0 c h.0) (m-block may room x h.1))
-  m-action may zero (choose c x y) h = absurd h
-  m-action may (suc room) (choose c x y) h =
-      word (suc room) _ _ (m-closing room _ _ (tokens_of left c) _ pairs.round (m-tree room 0 c h.0) (m-row (suc room) (action_tokens left x) _ (m-block may room x h.1) (word (suc room) _ _ (m-block may room y h.2))))
-  m-action may room (return v) h = word room _ _ (m-row room (result_tokens left v) _ (m-result room v h) (m-end room))
-  m-action may room break h = word room _ _ (m-end room)
-  m-action may zero (switch v ps) h = absurd h
-  m-action may (suc room) (switch v ps) h =
-      word (suc room) _ _ (m-closing room _ _ (tokens_of left v) _ pairs.round (m-tree room 0 v h.0) (m-closing room _ _ (parts_tokens left ps) [] pairs.brace (m-parts room ps h.1) (m-none (suc room))))
+  m-action : (x : Action) → Matched (action_tokens left x)
+  m-action (declare s x v) = m-row (left_type s) _ (m-type s) (word x _ (m-row (value_tokens left v) _ (m-value v) m-end))
+  m-action (assign t o v) = m-row (tokens_of left t) _ (m-tree t) (m-flat _ _ (assign-flat o) (m-row (tokens_of left v) _ (m-tree v) m-end))
+  m-action (a.call f ts) = m-flat (left_callee f) _ (callee-flat f) (m-closing _ _ (all_tokens left true ts) _ pairs.round (m-trees true ts) m-end)
+  m-action (discard x) = m-closing _ _ (Word (codes "void") ∷ []) _ pairs.round (word _ [] m-none) (word x _ m-end)
+  m-action empty = m-end
+  m-action (block list) = m-closing _ _ (actions_tokens left list) [] pairs.brace (m-actions list) m-none
+  m-action (when c x) = word _ _ (m-closing _ _ (tokens_of left c) _ pairs.round (m-tree c) (m-action x))
+  m-action (choose c x y) =
+      word _ _ (m-closing _ _ (tokens_of left c) _ pairs.round (m-tree c) (m-row (action_tokens left x) _ (m-action x) (word _ _ (m-action y))))
+  m-action (return v) = word _ _ (m-row (result_tokens left v) _ (m-result v) m-end)
+  m-action break = word _ _ m-end
+  m-action (switch v ps) =
+      word _ _ (m-closing _ _ (tokens_of left v) _ pairs.round (m-tree v) (m-closing _ _ (parts_tokens left ps) [] pairs.brace (m-parts ps) m-none))
 
-  m-block : (may : Bool) (room : ℕ) (x : Action) → FitsBlock may room x → Matched (suc room) (action_tokens left x)
-  m-block may room (block list) h = m-closing room _ _ (actions_tokens left list) [] pairs.brace (m-actions may room list h) (m-none (suc room))
-  m-block may room _ h = absurd h
+  m-actions : (list : Actions) → Matched (actions_tokens left list)
+  m-actions no_more = m-none
+  m-actions (then x rest) = m-row (action_tokens left x) _ (m-action x) (m-actions rest)
 
-  pub m-actions : (may : Bool) (room : ℕ) (list : Actions) → FitActions may room list → Matched room (actions_tokens left list)
-  m-actions may room no_more h = m-none room
-  m-actions may room (then x rest) h = m-row room (action_tokens left x) _ (m-action may room x h.0) (m-actions may room rest h.1)
-
-  m-parts : (room : ℕ) (ps : Parts) → FitParts room ps → Matched room (parts_tokens left ps)
-  m-parts room done h = m-none room
-  m-parts room (label None ps) h = word room _ _ (m-flat room _ _ pairs.f_colon (m-parts room ps h))
-  m-parts room (label (Some t) ps) h = word room _ _ (m-row room (tokens_of left t) _ (m-case room t h.0) (m-flat room _ _ pairs.f_colon (m-parts room ps h.1)))
-  m-parts room (statement x ps) h = m-row room (action_tokens left x) _ (m-action true room x h.1) (m-parts room ps h.2)
+  m-parts : (ps : Parts) → Matched (parts_tokens left ps)
+  m-parts done = m-none
+  m-parts (label v ps) = m-row (label_tokens left v) _ (m-label v) (m-flat _ _ pairs.f_colon (m-parts ps))
+  m-parts (statement x ps) = m-row (action_tokens left x) _ (m-action x) (m-parts ps)
 
 -- ---- items
 
-m-const : (room : ℕ) (c : Bool) → Matched room (const_tokens c)
-m-const room true = word room _ [] (m-none room)
-m-const room false = m-none room
+m-const : (c : Bool) → Matched (const_tokens c)
+m-const true = word _ [] m-none
+m-const false = m-none
 
-m-static : (room : ℕ) (c : Bool) → Matched room (static_tokens c)
-m-static room true = word room _ [] (m-none room)
-m-static room false = m-none room
+m-static : (c : Bool) → Matched (static_tokens c)
+m-static true = word _ [] m-none
+m-static false = m-none
 
-m-target : (room : ℕ) (t : Target) → Matched room (target_tokens left t)
-m-target room Byte = m-type room (Exact 8 false)
-m-target room (Struct tag) = word room _ _ (word room tag [] (m-none room))
+m-target : (t : Target) → Matched (target_tokens left t)
+m-target Byte = m-type (Exact 8 false)
+m-target (Struct tag) = word _ _ (word tag [] m-none)
 
-m-named : (room : ℕ) (t : CType) (n : List ℕ) → Matched room (named_tokens left t n)
-m-named room Void n = word room _ _ (word room n [] (m-none room))
-m-named room (Integer s) n = m-row room (left_type s) _ (m-type room s) (word room n [] (m-none room))
-m-named room (Pointer to c) n = m-row room (const_tokens c) _ (m-const room c) (m-row room (target_tokens left to) _ (m-target room to) (m-flat room _ _ pairs.f_star (word room n [] (m-none room))))
+m-named : (t : CType) (n : List ℕ) → Matched (named_tokens left t n)
+m-named Void n = word _ _ (word n [] m-none)
+m-named (Integer s) n = m-row (left_type s) _ (m-type s) (word n [] m-none)
+m-named (Pointer to c) n = m-row (const_tokens c) _ (m-const c) (m-row (target_tokens left to) _ (m-target to) (m-flat _ _ pairs.f_star (word n [] m-none)))
 
-m-fields : (room : ℕ) (fs : List BareField) → Matched room (fields_tokens left fs)
-m-fields room [] = m-none room
-m-fields room (f ∷ fs) = m-row room (named_tokens left f.kind f.name) _ (m-named room f.kind f.name) (m-flat room _ _ pairs.f_semicolon (m-fields room fs))
+m-fields : (fs : List BareField) → Matched (fields_tokens left fs)
+m-fields [] = m-none
+m-fields (f ∷ fs) = m-row (named_tokens left f.kind f.name) _ (m-named f.kind f.name) (m-flat _ _ pairs.f_semicolon (m-fields fs))
 
-m-params : (room : ℕ) (first : Bool) (ps : List BareField) → Matched room (params_tokens left first ps)
-m-params room first [] = m-none room
-m-params room first (p ∷ ps) = m-row room (comma first) _ (m-comma room first) (m-row room (named_tokens left p.kind p.name) _ (m-named room p.kind p.name) (m-params room false ps))
+m-params : (first : Bool) (ps : List BareField) → Matched (params_tokens left first ps)
+m-params first [] = m-none
+m-params first (p ∷ ps) = m-row (comma first) _ (m-comma first) (m-row (named_tokens left p.kind p.name) _ (m-named p.kind p.name) (m-params false ps))
 
-m-all-params : (room : ℕ) (ps : List BareField) → Matched room (all_params_tokens left ps)
-m-all-params room [] = word room _ [] (m-none room)
-m-all-params room (p ∷ ps) = m-params room true (p ∷ ps)
+m-all-params : (ps : List BareField) → Matched (all_params_tokens left ps)
+m-all-params [] = word _ [] m-none
+m-all-params (p ∷ ps) = m-params true (p ∷ ps)
 
-pub m-struct : (tag : List ℕ) (fs : List BareField) → Matched 64 (struct_tokens left tag fs)
-m-struct tag fs = word 64 _ _ (word 64 tag _ (m-closing 63 _ _ (fields_tokens left fs) _ pairs.brace (m-fields 63 fs) (m-end 64)))
+m-head : (h : BareHead) → Matched (head_tokens left h)
+m-head h =
+    m-row (static_tokens h.fixed) _ (m-static h.fixed)
+    (m-row (named_tokens left h.returns h.name) _ (m-named h.returns h.name) (m-closing _ _ (all_params_tokens left h.params) [] pairs.round (m-all-params h.params) m-none))
 
-m-body : (body : Option Actions) → FitsBody body → Matched 64 (body_tokens left body)
-m-body None h = m-end 64
-m-body (Some list) h = m-closing 63 _ _ (actions_tokens left list) [] pairs.brace (m-actions false 63 list h) (m-none 64)
+m-body : (body : Option Actions) → Matched (body_tokens left body)
+m-body None = m-end
+m-body (Some list) = m-closing _ _ (actions_tokens left list) [] pairs.brace (m-actions list) m-none
 
-pub m-function : (h : BareHead) (body : Option Actions) → FitsBody body → Matched 64 (head_tokens left h ++ body_tokens left body)
-m-function h body fits =
-    m-row 64 (head_tokens left h) (body_tokens left body)
-    (m-row 64 (static_tokens h.fixed) _ (m-static 64 h.fixed) (m-row 64 (named_tokens left h.returns h.name) _ (m-named 64 h.returns h.name) (m-closing 63 _ _ (all_params_tokens left h.params) [] pairs.round (m-all-params 63 h.params) (m-none 64))))
-    (m-body body fits)
+m-item : (i : BareItem) → Matched (item_tokens left i)
+m-item (struct tag fs) = word _ _ (word tag _ (m-closing _ _ (fields_tokens left fs) _ pairs.brace (m-fields fs) m-end))
+m-item (function h body) = m-row (head_tokens left h) (body_tokens left body) (m-head h) (m-body body)
 
--- all brackets match, and no more than 64 are open
-pub no-fault : (ts : List Token) (ks : List TokenKind) → kinds_of ts ≡ ks → Matched 64 ks → bracket_fault ts ≡ None
+m-items : (is : List BareItem) → Matched (items_tokens is)
+m-items [] = m-none
+m-items (i ∷ is) = m-row (item_tokens left i) (items_tokens is) (m-item i) (m-items is)
+
+-- the brackets match in the tokens of items
+pub no-fault : (is : List BareItem) (ts : List Token) → kinds_of ts ≡ items_tokens is → bracket_fault ts ≡ None
 unfolding bracket_fault
-no-fault ts ks e m =
-    let nil = append-nil ts in
-    ap (λ f. fault_of f (deep_from 0 0 ts)) (ap (mismatch 0 (within [])) (sym nil) ∙ m.walks ts e 0 [] [])
+no-fault is ts e =
+    ap (λ f. fault_of f (deep_from 0 0 ts)) (ap (mismatch 0 (within [])) (sym (append-nil ts)) ∙ (m-items is).walks ts e 0 [] [])

@@ -1,5 +1,6 @@
 -- Lists of tokens by their kinds.
-use Rattle.std.proofs.Common.{◌≡◌, ℕ, List, [], ◌∷◌, ◌++◌, refl, ap, ◌∙◌}
+use Rattle.std.proofs.Common.{◌≡◌, List, [], ◌∷◌, ◌++◌, refl, ap, ◌∙◌}
+use Rattle.std.specs.List.{AllByRecursion}
 use Rattle.c_text.specs.declared.token.Token.{Token}
 use Rattle.c_text.specs.declared.token.TokenKind.{TokenKind}
 use Rattle.c_tree.specs.TypeName.{kinds_of}
@@ -71,3 +72,13 @@ between-of o p c q ts e =
       last_kind = z.first_kind;
       rest_kinds = z.rest_kinds;
     }
+
+-- ---- what holds of all kinds
+
+pub every-append : (P : TokenKind → Type 0) (ks ls : List TokenKind) → AllByRecursion P ks → AllByRecursion P ls → AllByRecursion P (ks ++ ls)
+every-append P [] ls h g = g
+every-append P (k ∷ ks) ls h g = (h.0, every-append P ks ls h.1 g)
+
+pub every-is : (P Q : TokenKind → Type 0) → ((k : TokenKind) → P k → Q k) → (ks : List TokenKind) → AllByRecursion P ks → AllByRecursion Q ks
+every-is P Q f [] h = tt
+every-is P Q f (k ∷ ks) h = (f k h.0, every-is P Q f ks h.1)

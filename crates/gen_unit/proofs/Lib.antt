@@ -1,6 +1,3 @@
-pub mod PartLines
-pub mod InPairs
-pub mod HeaderLines
+pub mod Names
 pub mod NewMacros
 pub mod Meaning
-mod Rows

@@ -1,37 +1,34 @@
--- The header declares its constants: its lines are those of a guarded header, whose macros are new.
-use Rattle.std.proofs.Common.{◌≡◌, ℕ, true, false, List, [], ◌∷◌, ◌++◌, map, Result, Ok, Err, refl, ap, ◌∙◌, arith}
+-- The header declares its constants: its parts may be printed, and what is printed reads back.
+use Rattle.std.proofs.Common.{◌≡◌, ℕ, ◌+◌, ◌<◌, true, false, List, [], ◌∷◌, ◌++◌, map, length, Some, None, refl, sym, ap, subst, ◌∙◌, arith, length-append}
 use Rattle.std.specs.Prelude.{codes}
-use Rattle.std.specs.declared.option.Option.TheVariants.{Some, None}
 use Rattle.std.specs.List.{AllByRecursion, flat_map, zip}
 use Rattle.std.proofs.lemmas.Bool.Decides.{nat_tests}
 use Rattle.can_model.specs.declared.database.Message.{Message}
+use Rattle.name_rules.specs.declared.table.SymbolTable.{SymbolTable}
+use Rattle.name_rules.specs.declared.table.MessageNames.{MessageNames}
 use Rattle.name_rules.specs.IsIdentifier.{is_identifier_byte, IsIdentifier}
-use Rattle.c_text.specs.Refusal.{Refusal}
+use Rattle.name_rules.specs.Names.{HasNamesApart}
+use Rattle.name_rules.proofs.NamesApart.{identifier-bytes}
 use Rattle.c_text.specs.Characters.{goes_on, Pass}
 use Rattle.c_text.specs.Splice.{is_plain}
 use Rattle.c_text.specs.Piece.{in_string}
-use Rattle.c_text.specs.declared.token.Token.{Token}
-use Rattle.c_text.specs.declared.preprocessed.Preprocessed.{Preprocessed}
-use Rattle.c_text.specs.Directive.{quoted}
-use Rattle.c_text.specs.Preprocessing.{preprocessed_texts}
-use Rattle.c_text.specs.BarePreprocessing.{BareLeft, bare_preprocessed, bare_left, token_kinds, macro_kinds, named_kinds}
 use Rattle.c_text.proofs.Boundary.{pass-all, pass-append}
 use Rattle.c_text.proofs.PrintedLines.{bytes-in_string, bytes-plain}
-use Rattle.c_text.proofs.HeaderLines.{quoted-line}
-use Rattle.c_text.proofs.TextLines.{AreLines, texts-lines}
-use Rattle.c_text.proofs.GuardedHeader.{guarded_header, guarded-left}
-use Rattle.gen_unit.specs.Header.{header_parts, header_text}
-use Rattle.name_rules.specs.declared.table.SymbolTable.{SymbolTable}
-use Rattle.name_rules.specs.declared.table.MessageNames.{MessageNames}
-use Rattle.name_rules.specs.Names.{HasNamesApart}
-use Rattle.name_rules.proofs.NamesApart.{identifier-bytes}
-use Rattle.gen_unit.specs.HeaderMeaning.{Macro, number, constants_of, header_name, including, DeclaresConstants}
+use Rattle.c_tree.specs.BareUnit.{BareItem}
+use Rattle.c_printed.specs.PrintedUnit.{if_not_defined, define, end_if}
+use Rattle.c_printed.specs.Within.{ItemWithin}
+use Rattle.c_printed.specs.State.{nothing_known}
+use Rattle.c_printed.specs.PrintableUnit.{IsBeside, Balanced, IsHeaderAt}
+use Rattle.c_printed.specs.Reread.{header_items, header_macros, macro_tokens}
+use Rattle.c_printed.specs.Law.{ReadAsUnit}
+use Rattle.c_recut.proofs.PairLaw.{header-reads}
+use Rattle.gen_unit.specs.Header.{error_name, number, message_parts, all_message_parts, header_parts, header_text}
+use Rattle.gen_unit.specs.HeaderMeaning.{Macro, constants_of, macros_of, header_name, including, DeclaresConstants}
 use Rattle.gen_unit.specs.Small.{AreSmall}
-use Rattle.gen_unit.proofs.PartLines.{BareLine, parts-lines}
-use Rattle.gen_unit.proofs.HeaderLines.{all_macros, error_body, say-header}
-use Rattle.gen_unit.proofs.NewMacros.{guard_name, macro_names, guard-error, macros-new}
+use Rattle.gen_unit.proofs.Names.{all_macros, guard-is_free, macros-are_own}
+use Rattle.gen_unit.proofs.NewMacros.{Prints, prints-header}
 
--- ---- the source
+-- ---- the name of the header
 
 byte-goes_on : (b : ℕ) → is_identifier_byte b ≡ true → goes_on b ≡ true
 byte-goes_on b h = grind (arith, nat_tests)
@@ -40,47 +37,45 @@ bytes-go_on : (bs : List ℕ) → AllByRecursion (λ b. is_identifier_byte b ≡
 bytes-go_on [] h = tt
 bytes-go_on (b ∷ bs) h = (byte-goes_on b h.0, bytes-go_on bs h.1)
 
-source-lines : (name : List ℕ) → IsIdentifier name → AreLines (Some (header_name name)) (including name) (quoted ∷ [])
-source-lines [] h = absurd h
-source-lines (b ∷ bs) h =
-    let go : Pass goes_on (b ∷ bs) = bytes-go_on (b ∷ bs) (identifier-bytes (b ∷ bs) h) in
-    quoted-line b (bs ++ codes ".h")
-    (pass-append in_string (b ∷ bs) (codes ".h") (bytes-in_string (b ∷ bs) go) (pass-all in_string (codes ".h") refl))
-    (pass-append is_plain (b ∷ bs) (codes ".h") (bytes-plain (b ∷ bs) go) (pass-all is_plain (codes ".h") refl))
+name-beside : (name : List ℕ) → IsIdentifier name → IsBeside (Some (header_name name)) (header_name name)
+name-beside name h =
+    let go = bytes-go_on name (identifier-bytes name h) in
+    record {
+      is = refl;
+      not_empty = omega (arith, length-append name (codes ".h"));
+      shown = pass-append in_string name (codes ".h") (bytes-in_string name go) (pass-all in_string (codes ".h") refl);
+      plain = pass-append is_plain name (codes ".h") (bytes-plain name go) (pass-all is_plain (codes ".h") refl);
+    }
+
+-- ---- conditionals
+
+messages-balanced : (ms : List Message) (ns : List MessageNames) → Balanced 1 (all_message_parts ms ns ++ end_if ∷ [])
+messages-balanced [] ns = refl
+messages-balanced (m ∷ ms) [] = refl
+messages-balanced (m ∷ ms) (n ∷ ns) = messages-balanced ms ns
 
 -- ---- the macros
 
-kinds-macros : (ms : List Message) (ns : List MessageNames) → map named_kinds (all_macros ms ns) ≡ flat_map (λ p. constants_of p.0 p.1) (zip ms ns)
-kinds-macros [] ns = refl
-kinds-macros (m ∷ ms) [] = refl
-kinds-macros (m ∷ ms) (n ∷ ns) = ap (λ (rest : List Macro). constants_of m n ++ rest) (kinds-macros ms ns)
+constants-are : (ms : List Message) (ns : List MessageNames) → map macro_tokens (all_macros ms ns) ≡ flat_map (λ p. constants_of p.0 p.1) (zip ms ns)
+constants-are [] ns = refl
+constants-are (m ∷ ms) [] = refl
+constants-are (m ∷ ms) (n ∷ ns) = ap (λ (rest : List Macro). constants_of m n ++ rest) (constants-are ms ns)
 
--- ---- what is left
+macros-are : (ms : List Message) (t : SymbolTable) → map macro_tokens ((t.guard, None) ∷ (error_name, Some (number 22 10 false)) ∷ all_macros ms t.messages) ≡ macros_of ms t
+unfolding error_name
+macros-are ms t = ap (λ (rest : List Macro). map macro_tokens ((t.guard, None) ∷ (error_name, Some (number 22 10 false)) ∷ []) ++ rest) (constants-are ms t.messages)
 
-no-tokens : (ts : List Token) → token_kinds ts ≡ [] → ts ≡ []
-no-tokens [] e = refl
-no-tokens (t ∷ ts) e = absurd cc
+-- ---- the whole
 
-left-is : (r : Result Preprocessed Refusal) (b : BareLeft) → bare_preprocessed r ≡ Ok b → (left : Preprocessed) × (r ≡ Ok left) × (token_kinds left.tokens ≡ b.tokens) × (map macro_kinds left.macros ≡ b.macros)
-left-is (Ok left) b e =
-    let made : BareLeft = record { tokens = token_kinds left.tokens; macros = map macro_kinds left.macros } in
-    let same : made ≡ b = cc in
-    (left, refl, ap (λ (x : BareLeft). x.tokens) same, ap (λ (x : BareLeft). x.macros) same)
-left-is (Err f) b e = absurd cc
+pub header-may-be-printed : (ms : List Message) (t : SymbolTable) → AreSmall ms → HasNamesApart t → IsHeaderAt nothing_known (header_parts ms t)
+header-may-be-printed ms t small apart =
+    let x = prints-header ms t small (guard-is_free t apart.file) (macros-are_own ms t apart.file) in
+    record { right = x.right; balanced = messages-balanced ms t.messages }
 
 pub header-declares : (name : List ℕ) (ms : List Message) (t : SymbolTable) → IsIdentifier name → AreSmall ms → HasNamesApart t → DeclaresConstants name ms t (header_text ms t)
-header-declares name ms t h s a =
-    let g = t.guard in
-    let ds = all_macros ms t.messages in
-    let hs : List BareLine = guarded_header g error_body ds in
-    let header : AreLines None (header_text ms t) hs = parts-lines (header_parts ms t) hs (say-header ms t (guard_name t a.file) (macro_names t a.file) s) in
-    let bare : bare_preprocessed (preprocessed_texts (header_text ms t) (header_name name) (including name)) ≡ bare_left (Ok ([], (g, []) ∷ (codes "EINVAL", error_body) ∷ ds)) =
-    texts-lines (header_text ms t) (header_name name) (including name) hs (quoted ∷ []) header (source-lines name h)
-    ∙ ap bare_left (guarded-left g error_body ds (guard-error t a.file) (macros-new ms t a.file)) in
-    let left = left-is (preprocessed_texts (header_text ms t) (header_name name) (including name)) (record { tokens = []; macros = map named_kinds ((g, []) ∷ (codes "EINVAL", error_body) ∷ ds) }) bare in
-    record {
-      left = left.0;
-      no_fault = left.1;
-      no_tokens = no-tokens left.0.tokens left.2;
-      macros = left.3 ∙ ap (λ (rest : List Macro). (g, []) ∷ (codes "EINVAL", number 22 10 false ∷ []) ∷ rest) (kinds-macros ms t.messages);
-    }
+header-declares name ms t h small apart =
+    let x = prints-header ms t small (guard-is_free t apart.file) (macros-are_own ms t apart.file) in
+    let none : AllByRecursion ItemWithin (header_items (header_parts ms t) nothing_known) = subst (λ is. AllByRecursion ItemWithin is) (sym x.no_items) tt in
+    let reads = header-reads (header_name name) (header_parts ms t) (name-beside name h) (header-may-be-printed ms t small apart) none in
+    subst (λ is. ReadAsUnit (header_name name) (header_text ms t) (including name) is (macros_of ms t)) x.no_items
+    (subst (λ ls. ReadAsUnit (header_name name) (header_text ms t) (including name) (header_items (header_parts ms t) nothing_known) ls) (ap (map macro_tokens) x.macros ∙ macros-are ms t) reads)

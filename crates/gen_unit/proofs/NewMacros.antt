@@ -1,150 +1,167 @@
--- The macros of a header are new ones: their names stand among the names of the file, which differ, and none is the error's, which is reserved.
-use Rattle.std.proofs.Common.{◌≡◌, ℕ, Bool, true, false, not, ◌||◌, ◌&&◌, List, [], ◌∷◌, ◌++◌, map, refl, sym, ap, ◌∙◌}
-use Rattle.std.specs.Prelude.{codes}
-use Rattle.std.specs.List.{AllByRecursion, list_any, flat_map}
+-- The parts of a header may be printed, leave no item, and define their macros, each of which is new.
+use Rattle.std.proofs.Common.{◌≡◌, ℕ, ◌^◌, ◌<◌, Bool, true, false, ◌||◌, ◌==◌, cond, List, [], ◌∷◌, ◌++◌, map, Option, Some, None, refl, sym, ap, subst, ◌∙◌, arith}
+use Rattle.std.specs.Prelude.{nat_lt, codes}
+use Rattle.std.specs.List.{AllByRecursion, list_any}
 use Rattle.std.specs.Str.{bytes_eq}
-use Rattle.std.proofs.lemmas.Bool.{false_from_ne_true, both_ways}
-use Rattle.std.proofs.lemmas.Slice.Eq.{bytes_eq-Decides}
+use Rattle.std.proofs.lemmas.Bool.Decides.{nat_tests}
+use Rattle.cg_out.specs.Words.{look_up}
 use Rattle.can_model.specs.declared.database.Message.{Message}
 use Rattle.name_rules.specs.declared.table.SymbolTable.{SymbolTable}
 use Rattle.name_rules.specs.declared.table.MessageNames.{MessageNames}
 use Rattle.name_rules.specs.Distinct.{are_distinct}
-use Rattle.name_rules.specs.Reserved.{keywords, given_names, sized_types, is_reserved}
-use Rattle.name_rules.specs.Symbols.{one_or_none, file_names_of_signal, file_names_of_message, file_names}
-use Rattle.name_rules.specs.Names.{is_c_name, AreApart}
-use Rattle.c_text.specs.Characters.{IsName}
-use Rattle.c_text.specs.SeenToken.{Bare}
-use Rattle.c_text.specs.Directive.{define}
-use Rattle.c_text.specs.MacroDefinition.{is_macro}
-use Rattle.c_text.specs.Preprocessing.{NamedBody}
-use Rattle.c_text.proofs.Defines.{AreNew, is_macro-append, is_macro-define}
-use Rattle.c_text.proofs.GuardedHeader.{guarded_front}
-use Rattle.gen_unit.proofs.PartLines.{BareLine}
-use Rattle.gen_unit.proofs.HeaderLines.{AreNames, is-name, all_macros, error_body}
+use Rattle.c_text.specs.Characters.{Pass}
+use Rattle.c_text.proofs.Boundary.{pass-all}
+use Rattle.c_tree.specs.Symbol.{keyword_in}
+use Rattle.c_tree.specs.BareExpression.{Tree, bracket}
+use Rattle.c_printed.specs.PrintedUnit.{Part, comment, blank, include, define, if_not_defined, end_if}
+use Rattle.c_printed.specs.Printable.{IsFree, IsConstant, ten, sixteen}
+use Rattle.c_printed.specs.PrintableItem.{is_shown, IsShown}
+use Rattle.c_printed.specs.State.{Macro, State, nothing_known, header_named, listed, unless_known, with_macros, with_headers}
+use Rattle.c_printed.specs.PrintableUnit.{IsBody, IsSame, IsKnown, AllRight, no_header}
+use Rattle.c_printed.specs.Reread.{header_items, header_macros}
+use Rattle.gen_unit.specs.Header.{opening_text, error_name, shown_byte, about, number, message_parts, all_message_parts, opening_parts, include_parts, error_parts, header_parts}
+use Rattle.gen_unit.specs.Small.{IsSmallMessage, AreSmall}
+use Rattle.gen_unit.proofs.Names.{message_macros, all_macros, names, either_false, both_true, GuardIsFree, AreOwn}
 
-abbrev pub names : List (NamedBody (Unit {0})) → List (List ℕ)
-names ds = map (λ d. d.0) ds
+-- ---- comments
 
--- ---- the error's name is reserved
+shown-by : (b : ℕ) (t : Bool) → (nat_lt b 32 || nat_lt 126 b || b == 42 || b == 63 || b == 92) ≡ t → is_shown (cond t 46 b) ≡ true
+shown-by b true e = refl
+shown-by b false e = grind (arith, nat_tests)
 
-abbrev error_text : List ℕ
-error_text = codes "EINVAL"
+shown : (bs : List ℕ) → IsShown (map shown_byte bs)
+shown [] = tt
+shown (b ∷ bs) = (shown-by b _ refl, shown bs)
 
-error-reserved : is_reserved error_text ≡ true
-unfolding keywords given_names sized_types
-error-reserved = refl
+-- ---- parts in a row
 
-not-error : (x : List ℕ) → is_reserved x ≡ false → bytes_eq x error_text ≡ false
-not-error x h = false_from_ne_true (bytes_eq x error_text) (λ e. both_ways (is_reserved x) h (ap is_reserved ((bytes_eq-Decides x error_text).0 e) ∙ error-reserved))
+-- where this is known, the parts may be printed, leave no item, and define these macros
+pub record Prints (s : State) (ps : List Part) (ms : List Macro) : Type 0 where
+  pub right : AllRight None no_header (λ t. t) s ps
+  pub no_items : header_items ps s ≡ []
+  pub macros : header_macros ps s ≡ ms
 
-error-not : (x : List ℕ) → is_reserved x ≡ false → bytes_eq error_text x ≡ false
-error-not x h = false_from_ne_true (bytes_eq error_text x) (λ e. both_ways (is_reserved x) h (ap is_reserved (sym ((bytes_eq-Decides error_text x).0 e)) ∙ error-reserved))
+prints-comment : (s : State) (t : List ℕ) (ps : List Part) (ms : List Macro) → IsShown t → Prints s ps ms → Prints s (comment t ∷ ps) ms
+prints-comment s t ps ms h x = record { right = (h, x.right); no_items = x.no_items; macros = x.macros }
 
--- ---- the macros among the names of the file
+prints-blank : (s : State) (ps : List Part) (ms : List Macro) → Prints s ps ms → Prints s (blank ∷ ps) ms
+prints-blank s ps ms x = record { right = (tt, x.right); no_items = x.no_items; macros = x.macros }
 
-abbrev other_names : MessageNames → List (List ℕ)
-other_names n = one_or_none n.cycle ++ (n.tag ∷ n.pack ∷ n.unpack ∷ n.init ∷ []) ++ flat_map file_names_of_signal n.signals
+prints-end : (s : State) (ps : List Part) (ms : List Macro) → Prints s ps ms → Prints s (end_if ∷ ps) ms
+prints-end s ps ms x = record { right = (tt, x.right); no_items = x.no_items; macros = x.macros }
 
-abbrev rest_names : List MessageNames → List (List ℕ)
-rest_names ns = flat_map file_names_of_message ns
+prints-ifndef : (s : State) (n : List ℕ) (ps : List Part) (ms : List Macro) → IsFree n → look_up n s.macros ≡ None → Prints s ps ms → Prints s (if_not_defined n ∷ ps) ms
+prints-ifndef s n ps ms f e x = record { right = ((f, e), x.right); no_items = x.no_items; macros = x.macros }
 
-either_false : (a b : Bool) → (a || b) ≡ false → (a ≡ false) × (b ≡ false)
-either_false false b h = (refl, h)
-either_false true b h = absurd (let f : ◌≡◌ {A = Bool} true false = h in cc)
+prints-include : (s : State) (n : List ℕ) (ps : List Part) (ms : List Macro) → IsKnown (header_named n) → Prints (with_headers s (listed (header_named n))) ps ms → Prints s (include n ∷ ps) ms
+prints-include s n ps ms h x = record { right = (h, x.right); no_items = x.no_items; macros = x.macros }
 
-both_true : (a b : Bool) → (not a && b) ≡ true → (a ≡ false) × (b ≡ true)
-both_true false b h = (refl, h)
-both_true true b h = absurd (let f : ◌≡◌ {A = Bool} false true = h in cc)
+-- a macro that is new
+prints-define : (s : State) (n : List ℕ) (body : Option Tree) (ps : List Part) (ms : List Macro) → IsFree n → IsBody body → look_up n s.macros ≡ None
+    → Prints (with_macros s ((n, body) ∷ [])) ps ms → Prints s (define n body ∷ ps) ((n, body) ∷ ms)
+prints-define s n body ps ms f b e x = record {
+  right = ((f, b, subst (λ o. IsSame o body) (sym e) tt), subst (λ o. AllRight None no_header (λ t. t) (with_macros s (unless_known o (n, body))) ps) (sym e) x.right);
+  no_items = ap (λ o. header_items ps (with_macros s (unless_known o (n, body)))) e ∙ x.no_items;
+  macros = (λ i. unless_known (e i) (n, body) ++ header_macros ps (with_macros s (unless_known (e i) (n, body)))) ∙ ap (λ r. (n, body) ∷ r) x.macros;
+}
 
--- a name that is none of two lists' is none of the second's
-none_behind : (x : List ℕ) (xs ys : List (List ℕ)) → list_any (bytes_eq x) (xs ++ ys) ≡ false → list_any (bytes_eq x) ys ≡ false
-none_behind x [] ys h = h
-none_behind x (y ∷ xs) ys h = none_behind x xs ys (either_false (bytes_eq x y) (list_any (bytes_eq x) (xs ++ ys)) h).1
+-- ---- new names
 
--- a name that is none of the file's is none of the macros'
-none_among : (x : List ℕ) (ms : List Message) (ns : List MessageNames) → list_any (bytes_eq x) (rest_names ns) ≡ false → list_any (bytes_eq x) (names (all_macros ms ns)) ≡ false
-none_among x [] ns h = refl
-none_among x (m ∷ ms) [] h = refl
-none_among x (m ∷ ms) (n ∷ ns) h =
-    let others : List (List ℕ) = other_names n ++ rest_names ns in
-    let a = either_false (bytes_eq x n.frame_id) (list_any (bytes_eq x) (n.length ∷ n.extended ∷ others)) h in
-    let b = either_false (bytes_eq x n.length) (list_any (bytes_eq x) (n.extended ∷ others)) a.1 in
-    let c = either_false (bytes_eq x n.extended) (list_any (bytes_eq x) others) b.1 in
-    rw (a.0, b.0, c.0) (none_among x ms ns (none_behind x (other_names n) (rest_names ns) c.1))
+-- none of these is a macro there
+abbrev AreNone : List Macro → List Macro → Type 0
+AreNone known ds = AllByRecursion (λ (d : Macro). look_up d.0 known ≡ None) ds
 
-distinct_behind : (xs ys : List (List ℕ)) → are_distinct (xs ++ ys) ≡ true → are_distinct ys ≡ true
-distinct_behind [] ys h = h
-distinct_behind (x ∷ xs) ys h = distinct_behind xs ys (both_true (list_any (bytes_eq x) (xs ++ ys)) (are_distinct (xs ++ ys)) h).1
+look-behind : (x : List ℕ) (known : List Macro) (n : List ℕ) (body : Option Tree) → look_up x known ≡ None → bytes_eq n x ≡ false → look_up x (known ++ (n, body) ∷ []) ≡ None
+look-behind x [] n body h e = ap (λ b. cond b (Some body) None) e
+look-behind x (k ∷ known) n body h e = by (bytes_eq k.0 x) h (λ g. look-behind x known n body g e)
+  where
+    by : (b : Bool) → cond b (Some k.1) (look_up x known) ≡ None → (look_up x known ≡ None → look_up x (known ++ (n, body) ∷ []) ≡ None) → cond b (Some k.1) (look_up x (known ++ (n, body) ∷ [])) ≡ None
+    by true g f = cc
+    by false g f = f g
 
-macros_distinct : (ms : List Message) (ns : List MessageNames) → are_distinct (rest_names ns) ≡ true → are_distinct (names (all_macros ms ns)) ≡ true
-macros_distinct [] ns h = refl
-macros_distinct (m ∷ ms) [] h = refl
-macros_distinct (m ∷ ms) (n ∷ ns) h =
-    let others : List (List ℕ) = other_names n ++ rest_names ns in
-    let none : (x : List ℕ) → list_any (bytes_eq x) others ≡ false → list_any (bytes_eq x) (names (all_macros ms ns)) ≡ false = λ x k. none_among x ms ns (none_behind x (other_names n) (rest_names ns) k) in
-    let p = both_true (list_any (bytes_eq n.frame_id) (n.length ∷ n.extended ∷ others)) (are_distinct (n.length ∷ n.extended ∷ others)) h in
-    let q = both_true (list_any (bytes_eq n.length) (n.extended ∷ others)) (are_distinct (n.extended ∷ others)) p.1 in
-    let r = both_true (list_any (bytes_eq n.extended) others) (are_distinct others) q.1 in
-    let a = either_false (bytes_eq n.frame_id n.length) (list_any (bytes_eq n.frame_id) (n.extended ∷ others)) p.0 in
-    let b = either_false (bytes_eq n.frame_id n.extended) (list_any (bytes_eq n.frame_id) others) a.1 in
-    let c = either_false (bytes_eq n.length n.extended) (list_any (bytes_eq n.length) others) q.0 in
-    rw (a.0, b.0, none n.frame_id b.1, c.0, none n.length c.1, none n.extended r.0) (macros_distinct ms ns (distinct_behind (other_names n) (rest_names ns) r.1))
-
--- what is so of all names of the file is so of the macros'
-all_behind : (P : List ℕ → Type 0) (xs ys : List (List ℕ)) → AllByRecursion P (xs ++ ys) → AllByRecursion P ys
-all_behind P [] ys h = h
-all_behind P (x ∷ xs) ys h = all_behind P xs ys h.1
-
-all_among : (P : List ℕ → Type 0) (ms : List Message) (ns : List MessageNames) → AllByRecursion P (rest_names ns) → AllByRecursion (λ d. P d.0) (all_macros ms ns)
-all_among P [] ns h = tt
-all_among P (m ∷ ms) [] h = tt
-all_among P (m ∷ ms) (n ∷ ns) h = (h.0, (h.1.0, (h.1.1.0, all_among P ms ns (all_behind P (other_names n) (rest_names ns) h.1.1.1))))
-
-names_of : (ns : List MessageNames) → AllByRecursion (λ x. is_c_name x ≡ true) (rest_names ns) → AreNames ns
-names_of [] h = tt
-names_of (n ∷ ns) h =
-    ((is-name n.frame_id h.0, is-name n.length h.1.0, is-name n.extended h.1.1.0), names_of ns (all_behind (λ x. is_c_name x ≡ true) (other_names n) (rest_names ns) h.1.1.1))
-
--- ---- none of them is a macro before its line
-
-abbrev AreNone : List BareLine → List (NamedBody (Unit {0})) → Type 0
-AreNone before ds = AllByRecursion (λ d. is_macro d.0 before ≡ false) ds
-
-none_more : (before : List BareLine) (n : List ℕ) (body : List Bare) (ds : List (NamedBody (Unit {0}))) → AreNone before ds → list_any (bytes_eq n) (names ds) ≡ false → AreNone (before ++ define tt n body ∷ []) ds
-none_more before n body [] h k = tt
-none_more before n body (d ∷ ds) h k =
+none_more : (known : List Macro) (n : List ℕ) (body : Option Tree) (ds : List Macro) → AreNone known ds → list_any (bytes_eq n) (names ds) ≡ false → AreNone (known ++ (n, body) ∷ []) ds
+none_more known n body [] h k = tt
+none_more known n body (d ∷ ds) h k =
     let p = either_false (bytes_eq n d.0) (list_any (bytes_eq n) (names ds)) k in
-    (is_macro-append d.0 before (define tt n body ∷ []) ∙ (λ i. h.0 i || is_macro-define d.0 tt n body i) ∙ p.0, none_more before n body ds h.1 p.1)
+    (look-behind d.0 known n body h.0 p.0, none_more known n body ds h.1 p.1)
 
-new_from : (before : List BareLine) (ds : List (NamedBody (Unit {0}))) → AreNone before ds → are_distinct (names ds) ≡ true → AreNew tt before ds
-new_from before [] h k = tt
-new_from before (d ∷ ds) h k =
-    let p = both_true (list_any (bytes_eq d.0) (names ds)) (are_distinct (names ds)) k in
-    (h.0, new_from (before ++ define tt d.0 d.1 ∷ []) ds (none_more before d.0 d.1 ds h.1 p.0) p.1)
+-- ---- messages
 
-front_none : (g x : List ℕ) → bytes_eq g x ≡ false → bytes_eq error_text x ≡ false → is_macro x (guarded_front g error_body) ≡ false
-front_none g x h k = rw (h, k) refl
+decimal-constant : (v : ℕ) (u : Bool) → v < 2 ^ 64 → IsConstant (record { value = v; base = 10; unsigned = u; longs = 0 })
+decimal-constant v u h = record { small = h; base = ten; longs = omega arith }
 
-none_in_front : (g : List ℕ) (ds : List (NamedBody (Unit {0}))) → list_any (bytes_eq g) (names ds) ≡ false → AllByRecursion (λ d. is_reserved d.0 ≡ false) ds → AreNone (guarded_front g error_body) ds
-none_in_front g [] h f = tt
-none_in_front g (d ∷ ds) h f =
+bracket-body : (v base : ℕ) (u : Bool) → IsConstant (record { value = v; base = base; unsigned = u; longs = 0 }) → IsBody (Some (bracket (number v base u)))
+bracket-body v base u h = (h, tt)
+
+flag-small : (b : Bool) → cond b 1 0 < 2 ^ 64
+flag-small true = omega arith
+flag-small false = omega arith
+
+prints-messages : (s : State) (ms : List Message) (ns : List MessageNames) → AreSmall ms → AllByRecursion (λ (d : Macro). IsFree d.0) (all_macros ms ns) → are_distinct (names (all_macros ms ns)) ≡ true → AreNone s.macros (all_macros ms ns)
+    → Prints s (all_message_parts ms ns ++ end_if ∷ []) (all_macros ms ns)
+prints-messages s [] ns small free apart new = prints-end s [] [] (record { right = tt; no_items = refl; macros = refl })
+prints-messages s (m ∷ ms) [] small free apart new = prints-end s [] [] (record { right = tt; no_items = refl; macros = refl })
+prints-messages s (m ∷ ms) (n ∷ ns) small free apart new =
+    let rest = all_macros ms ns in
+    let behind = names rest in
+    let id : Option Tree = Some (bracket (number m.id 16 true)) in
+    let size : Option Tree = Some (bracket (number m.length 10 true)) in
+    let flag : Option Tree = Some (bracket (number (cond m.extended 1 0) 10 false)) in
+    let p = both_true (list_any (bytes_eq n.frame_id) (n.length ∷ n.extended ∷ behind)) (are_distinct (n.length ∷ n.extended ∷ behind)) apart in
+    let q = both_true (list_any (bytes_eq n.length) (n.extended ∷ behind)) (are_distinct (n.extended ∷ behind)) p.1 in
+    let r = both_true (list_any (bytes_eq n.extended) behind) (are_distinct behind) q.1 in
+    let one = with_macros s ((n.frame_id, id) ∷ []) in
+    let two = with_macros one ((n.length, size) ∷ []) in
+    let three = with_macros two ((n.extended, flag) ∷ []) in
+    let new1 : AreNone one.macros ((n.length, size) ∷ (n.extended, flag) ∷ rest) = none_more s.macros n.frame_id id ((n.length, size) ∷ (n.extended, flag) ∷ rest) new.1 p.0 in
+    let new2 : AreNone two.macros ((n.extended, flag) ∷ rest) = none_more one.macros n.length size ((n.extended, flag) ∷ rest) new1.1 q.0 in
+    let new3 : AreNone three.macros rest = none_more two.macros n.extended flag rest new2.1 r.0 in
+    let tail = all_message_parts ms ns ++ end_if ∷ [] in
+    prints-comment s (map shown_byte (about m)) _ _ (shown (about m))
+    (prints-define s n.frame_id id _ _ free.0 (record { small = small.0.id; base = sixteen; longs = omega arith }, tt) new.0
+    (prints-define one n.length size _ _ free.1.0 (decimal-constant m.length true small.0.length, tt) new1.0
+    (prints-define two n.extended flag (blank ∷ tail) rest free.1.1.0 (decimal-constant (cond m.extended 1 0) false (flag-small m.extended), tt) new2.0
+    (prints-blank three tail rest (prints-messages three ms ns small.1 free.1.1.1 r.1 new3)))))
+
+-- ---- the whole
+
+error-free : IsFree error_name
+unfolding error_name keyword_in
+error-free = ((refl, (refl, (refl, (refl, (refl, (refl, tt)))))), refl)
+
+opening-shown : IsShown opening_text
+unfolding opening_text
+opening-shown = pass-all is_shown opening_text refl
+
+abbrev front : List ℕ → List Macro
+front g = (g, None) ∷ (error_name, Some (number 22 10 false)) ∷ []
+
+none-in-front : (g : List ℕ) (ds : List Macro) → list_any (bytes_eq g) (names ds) ≡ false → AllByRecursion (λ (d : Macro). bytes_eq error_name d.0 ≡ false) ds → AreNone (front g) ds
+none-in-front g [] h k = tt
+none-in-front g (d ∷ ds) h k =
     let p = either_false (bytes_eq g d.0) (list_any (bytes_eq g) (names ds)) h in
-    (front_none g d.0 p.0 (error-not d.0 f.0), none_in_front g ds p.1 f.1)
+    ((λ i. cond (p.0 i) (Some None) (cond (k.0 i) (Some (Some (number 22 10 false))) None)), none-in-front g ds p.1 k.1)
 
--- ---- of a table
-
-pub guard_name : (t : SymbolTable) → AreApart is_reserved (file_names t) → IsName t.guard
-guard_name t h = is-name t.guard h.words.0
-
-pub macro_names : (t : SymbolTable) → AreApart is_reserved (file_names t) → AreNames t.messages
-macro_names t h = names_of t.messages h.words.1
-
-pub guard-error : (t : SymbolTable) → AreApart is_reserved (file_names t) → bytes_eq t.guard error_text ≡ false
-guard-error t h = not-error t.guard h.free.0
-
-pub macros-new : (ms : List Message) (t : SymbolTable) → AreApart is_reserved (file_names t) → AreNew tt (guarded_front t.guard error_body) (all_macros ms t.messages)
-macros-new ms t h =
-    let p = both_true (list_any (bytes_eq t.guard) (rest_names t.messages)) (are_distinct (rest_names t.messages)) h.distinct in
-    new_from (guarded_front t.guard error_body) (all_macros ms t.messages)
-    (none_in_front t.guard (all_macros ms t.messages) (none_among t.guard ms t.messages p.0) (all_among (λ x. is_reserved x ≡ false) ms t.messages h.free.1))
-    (macros_distinct ms t.messages p.1)
+pub prints-header : (ms : List Message) (t : SymbolTable) → AreSmall ms → GuardIsFree t.guard → AreOwn t.guard (all_macros ms t.messages)
+    → Prints nothing_known (header_parts ms t) (front t.guard ++ all_macros ms t.messages)
+prints-header ms t small g own =
+    let guard = t.guard in
+    let ds = all_macros ms t.messages in
+    let no_error : look_up error_name ((guard, None) ∷ []) ≡ None = ap (λ b. cond b (Some None) None) g.not_error in
+    let messages = all_message_parts ms t.messages ++ end_if ∷ [] in
+    let s1 = with_macros nothing_known ((guard, None) ∷ []) in
+    let s2 = with_headers (with_headers (with_headers s1 (listed (header_named (codes "stdbool.h")))) (listed (header_named (codes "stddef.h")))) (listed (header_named (codes "stdint.h"))) in
+    let s3 = with_macros s2 ((error_name, Some (number 22 10 false)) ∷ []) in
+    let body = prints-messages s3 ms t.messages small own.free own.distinct (none-in-front guard ds own.no_guard own.no_error) in
+    let error : Prints s2 (error_parts ++ messages) ((error_name, Some (number 22 10 false)) ∷ ds) =
+        prints-ifndef s2 error_name _ _ error-free no_error
+        (prints-define s2 error_name (Some (number 22 10 false)) (end_if ∷ blank ∷ messages) ds error-free (decimal-constant 22 false (omega arith), tt) no_error
+        (prints-end s3 (blank ∷ messages) ds (prints-blank s3 messages ds body))) in
+    let includes : Prints s1 (include_parts ++ (error_parts ++ messages)) ((error_name, Some (number 22 10 false)) ∷ ds) =
+        prints-include s1 (codes "stdbool.h") _ _ tt
+        (prints-include _ (codes "stddef.h") _ _ tt
+        (prints-include _ (codes "stdint.h") _ _ tt (prints-blank s2 (error_parts ++ messages) _ error))) in
+    prints-comment nothing_known opening_text _ _ opening-shown
+    (prints-blank nothing_known _ _
+    (prints-ifndef nothing_known guard _ _ g.free refl
+    (prints-define nothing_known guard None (blank ∷ (include_parts ++ (error_parts ++ messages))) _ g.free tt refl (prints-blank s1 _ _ includes))))

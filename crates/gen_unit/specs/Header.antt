@@ -1,11 +1,11 @@
 -- The header of a database, as a list of parts.
-use Rattle.std.specs.Prelude.{ℕ, List, [], ◌∷◌, ◌++◌, codes}
+use Rattle.std.specs.Prelude.{ℕ, Bool, true, false, ◌||◌, ◌==◌, nat_lt, if◌then◌else◌, List, [], ◌∷◌, ◌++◌, map, codes, Option, Some, None}
 use Rattle.std.specs.List.{flat_map, zip}
 use Rattle.can_model.specs.declared.database.Message.{Message}
 use Rattle.name_rules.specs.declared.table.SymbolTable.{SymbolTable}
 use Rattle.name_rules.specs.declared.table.MessageNames.{MessageNames}
-use Rattle.gen_unit.specs.Parts.{Part, comment, blank, include, if_not_defined, define, end_if, text_of}
-use Rattle.gen_unit.specs.declared.parts.MacroBody.TheVariants.{Empty, Plain, Hexadecimal, Unsigned, Flag}
+use Rattle.c_tree.specs.BareExpression.{Tree, constant, bracket}
+use Rattle.c_printed.specs.PrintedUnit.{Part, comment, blank, include, define, if_not_defined, end_if, unit_text}
 
 -- the words that stand in every header
 unfoldable pub opening_text : List ℕ
@@ -13,6 +13,12 @@ opening_text = codes "Generated from a CAN database. Do not edit."
 
 unfoldable pub error_name : List ℕ
 error_name = codes "EINVAL"
+
+-- ---- comments
+
+-- what may stand in a comment: no byte that could end it, splice a line or begin a trigraph, and none outside ASCII's printed ones
+abbrev pub shown_byte : ℕ → ℕ
+shown_byte b = if nat_lt b 32 || nat_lt 126 b || b == 42 || b == 63 || b == 92 then 46 else b
 
 -- a comment follows a blank, where there is one
 abbrev pub after_blank : List ℕ → List ℕ
@@ -23,13 +29,23 @@ after_blank (b ∷ bs) = 32 ∷ b ∷ bs
 abbrev pub about : Message → List ℕ
 about m = codes "Message " ++ m.name ++ after_blank m.comment
 
--- a message's macros, by their names
+-- ---- macros
+
+-- a constant without `l`
+abbrev pub number : ℕ → ℕ → Bool → Tree
+number value base unsigned = constant (record { value = value; base = base; unsigned = unsigned; longs = 0 })
+
+-- a macro whose body is a constant in brackets
+abbrev pub in_brackets : List ℕ → Tree → Part
+in_brackets name t = define name (Some (bracket t))
+
+-- a message's macros, by their names: its frame id, its length, and 1 where its frame is extended, else 0
 abbrev pub message_parts : Message → MessageNames → List Part
 message_parts m names =
-    comment (about m)
-    ∷ define names.frame_id (Hexadecimal m.id)
-    ∷ define names.length (Unsigned m.length)
-    ∷ define names.extended (Flag m.extended)
+    comment (map shown_byte (about m))
+    ∷ in_brackets names.frame_id (number m.id 16 true)
+    ∷ in_brackets names.length (number m.length 10 true)
+    ∷ in_brackets names.extended (number (if m.extended then 1 else 0) 10 false)
     ∷ blank
     ∷ []
 
@@ -37,20 +53,22 @@ message_parts m names =
 abbrev pub all_message_parts : List Message → List MessageNames → List Part
 all_message_parts messages names = flat_map (λ p. message_parts p.0 p.1) (zip messages names)
 
+-- ---- the whole
+
 abbrev pub opening_parts : List ℕ → List Part
-opening_parts guard = comment opening_text ∷ blank ∷ if_not_defined guard ∷ define guard Empty ∷ blank ∷ []
+opening_parts guard = comment opening_text ∷ blank ∷ if_not_defined guard ∷ define guard None ∷ blank ∷ []
 
 abbrev pub include_parts : List Part
 include_parts = include (codes "stdbool.h") ∷ include (codes "stddef.h") ∷ include (codes "stdint.h") ∷ blank ∷ []
 
 abbrev pub error_parts : List Part
-error_parts = if_not_defined error_name ∷ define error_name (Plain 22) ∷ end_if ∷ blank ∷ []
+error_parts = if_not_defined error_name ∷ define error_name (Some (number 22 10 false)) ∷ end_if ∷ blank ∷ []
 
 -- the comment, the guard, the includes, the error's number, each message, and the end of the guard
 abbrev pub header_parts : List Message → SymbolTable → List Part
 header_parts messages names =
-    opening_parts names.guard ++ include_parts ++ error_parts ++ all_message_parts messages names.messages ++ end_if ∷ []
+    opening_parts names.guard ++ (include_parts ++ (error_parts ++ (all_message_parts messages names.messages ++ end_if ∷ [])))
 
 -- the bytes of the header of these messages, by the names of a table
 abbrev pub header_text : List Message → SymbolTable → List ℕ
-header_text messages names = text_of (header_parts messages names)
+header_text messages names = unit_text (header_parts messages names)

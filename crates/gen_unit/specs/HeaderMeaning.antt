@@ -1,14 +1,13 @@
--- What a header says as C (ISO/IEC 9899:1999, 6.4 and 6.10): its macros, beside a source that includes it alone.
-use Rattle.std.specs.Prelude.{◌≡◌, ℕ, Bool, true, false, if◌then◌else◌, List, [], ◌∷◌, ◌++◌, map, codes, Ok}
+-- What a header says as C (ISO/IEC 9899:1999, 6.4 to 6.10): its macros, beside a source that includes it alone.
+use Rattle.std.specs.Prelude.{ℕ, Bool, true, false, if◌then◌else◌, List, [], ◌∷◌, ◌++◌, codes}
 use Rattle.std.specs.List.{flat_map, zip}
 use Rattle.can_model.specs.declared.database.Message.{Message}
 use Rattle.name_rules.specs.declared.table.SymbolTable.{SymbolTable}
 use Rattle.name_rules.specs.declared.table.MessageNames.{MessageNames}
 use Rattle.c_text.specs.declared.token.TokenKind.{TokenKind}
 use Rattle.c_text.specs.declared.token.TokenKind.TheVariants.{Constant as Number, Mark}
-use Rattle.c_text.specs.declared.preprocessed.Preprocessed.{Preprocessed}
-use Rattle.c_text.specs.Preprocessing.{preprocessed_texts}
-use Rattle.c_text.specs.BarePreprocessing.{macro_kinds}
+use Rattle.c_printed.specs.PrintedUnit.{include_beside, part_text}
+use Rattle.c_printed.specs.Law.{ReadAsUnit}
 
 -- a macro's name and the kinds of its body's tokens
 abbrev pub Macro : Type 0
@@ -41,11 +40,8 @@ header_name name = name ++ codes ".h"
 
 -- a source that is the include of the header of that name, and a line end
 abbrev pub including : List ℕ → List ℕ
-including name = codes "#include " ++ 34 ∷ (header_name name ++ 34 ∷ 10 ∷ [])
+including name = part_text (include_beside (header_name name))
 
--- the header has no fault of tokens or of preprocessing, leaves no token, and defines these macros and no other ones
-pub record DeclaresConstants (name : List ℕ) (messages : List Message) (names : SymbolTable) (header : List ℕ) : Type 0 where
-  pub left : Preprocessed
-  pub no_fault : preprocessed_texts header (header_name name) (including name) ≡ Ok left
-  pub no_tokens : left.tokens ≡ []
-  pub macros : map macro_kinds left.macros ≡ macros_of messages names
+-- the header has no fault, leaves no item, and defines these macros and no other ones
+abbrev pub DeclaresConstants : (name : List ℕ) → List Message → SymbolTable → (header : List ℕ) → Type 0
+DeclaresConstants name messages names header = ReadAsUnit (header_name name) header (including name) [] (macros_of messages names)

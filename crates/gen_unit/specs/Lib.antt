@@ -1,5 +1,4 @@
 -- What the promises rest on.
 pub mod Header
-pub mod Parts
 pub mod HeaderMeaning
 pub mod Small
