@@ -11,3 +11,4 @@ pub mod UnitReading
 pub mod UnitLeft
 pub mod ExpandedFits
 pub mod UnitFits
+mod Rows

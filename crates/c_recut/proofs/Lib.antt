@@ -9,3 +9,4 @@ pub mod CutFunction
 pub mod Matching
 pub mod CutUnit
 pub mod PairLaw
+mod Example

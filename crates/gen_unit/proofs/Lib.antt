@@ -1,3 +1,5 @@
 pub mod Names
 pub mod NewMacros
 pub mod Meaning
+pub mod InPairs
+mod Rows

@@ -9,8 +9,6 @@ use Rattle.can_model.specs.declared.database.Message.{Message}
 use Rattle.name_rules.specs.declared.table.SymbolTable.{SymbolTable}
 use Rattle.name_rules.specs.declared.table.MessageNames.{MessageNames}
 use Rattle.name_rules.specs.Distinct.{are_distinct}
-use Rattle.c_text.specs.Characters.{Pass}
-use Rattle.c_text.proofs.Boundary.{pass-all}
 use Rattle.c_tree.specs.Symbol.{keyword_in}
 use Rattle.c_tree.specs.BareExpression.{Tree, bracket}
 use Rattle.c_printed.specs.PrintedUnit.{Part, comment, blank, include, define, if_not_defined, end_if}
@@ -129,10 +127,6 @@ error-free : IsFree error_name
 unfolding error_name keyword_in
 error-free = ((refl, (refl, (refl, (refl, (refl, (refl, tt)))))), refl)
 
-opening-shown : IsShown opening_text
-unfolding opening_text
-opening-shown = pass-all is_shown opening_text refl
-
 abbrev front : List ℕ → List Macro
 front g = (g, None) ∷ (error_name, Some (number 22 10 false)) ∷ []
 
@@ -161,7 +155,7 @@ prints-header ms t small g own =
         prints-include s1 (codes "stdbool.h") _ _ tt
         (prints-include _ (codes "stddef.h") _ _ tt
         (prints-include _ (codes "stdint.h") _ _ tt (prints-blank s2 (error_parts ++ messages) _ error))) in
-    prints-comment nothing_known opening_text _ _ opening-shown
+    prints-comment nothing_known (map shown_byte opening_text) _ _ (shown opening_text)
     (prints-blank nothing_known _ _
     (prints-ifndef nothing_known guard _ _ g.free refl
     (prints-define nothing_known guard None (blank ∷ (include_parts ++ (error_parts ++ messages))) _ g.free tt refl (prints-blank s1 _ _ includes))))

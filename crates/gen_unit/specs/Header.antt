@@ -20,6 +20,10 @@ error_name = codes "EINVAL"
 abbrev pub shown_byte : ℕ → ℕ
 shown_byte b = if nat_lt b 32 || nat_lt 126 b || b == 42 || b == 63 || b == 92 then 46 else b
 
+-- a comment with these words, as far as they may stand there
+abbrev pub remark : List ℕ → Part
+remark words = comment (map shown_byte words)
+
 -- a comment follows a blank, where there is one
 abbrev pub after_blank : List ℕ → List ℕ
 after_blank [] = []
@@ -36,16 +40,16 @@ abbrev pub number : ℕ → ℕ → Bool → Tree
 number value base unsigned = constant (record { value = value; base = base; unsigned = unsigned; longs = 0 })
 
 -- a macro whose body is a constant in brackets
-abbrev pub in_brackets : List ℕ → Tree → Part
-in_brackets name t = define name (Some (bracket t))
+abbrev pub constant_macro : List ℕ → Tree → Part
+constant_macro name t = define name (Some (bracket t))
 
 -- a message's macros, by their names: its frame id, its length, and 1 where its frame is extended, else 0
 abbrev pub message_parts : Message → MessageNames → List Part
 message_parts m names =
-    comment (map shown_byte (about m))
-    ∷ in_brackets names.frame_id (number m.id 16 true)
-    ∷ in_brackets names.length (number m.length 10 true)
-    ∷ in_brackets names.extended (number (if m.extended then 1 else 0) 10 false)
+    remark (about m)
+    ∷ constant_macro names.frame_id (number m.id 16 true)
+    ∷ constant_macro names.length (number m.length 10 true)
+    ∷ constant_macro names.extended (number (if m.extended then 1 else 0) 10 false)
     ∷ blank
     ∷ []
 
@@ -56,7 +60,7 @@ all_message_parts messages names = flat_map (λ p. message_parts p.0 p.1) (zip m
 -- ---- the whole
 
 abbrev pub opening_parts : List ℕ → List Part
-opening_parts guard = comment opening_text ∷ blank ∷ if_not_defined guard ∷ define guard None ∷ blank ∷ []
+opening_parts guard = remark opening_text ∷ blank ∷ if_not_defined guard ∷ define guard None ∷ blank ∷ []
 
 abbrev pub include_parts : List Part
 include_parts = include (codes "stdbool.h") ∷ include (codes "stddef.h") ∷ include (codes "stdint.h") ∷ blank ∷ []
