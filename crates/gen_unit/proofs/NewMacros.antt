@@ -1,6 +1,6 @@
 -- The parts of a header may be printed, leave no item, and define their macros, each of which is new.
 use Rattle.std.proofs.Common.{◌≡◌, ℕ, ◌^◌, ◌<◌, Bool, true, false, ◌||◌, ◌==◌, cond, List, [], ◌∷◌, ◌++◌, map, Option, Some, None, refl, sym, ap, subst, ◌∙◌, arith}
-use Rattle.std.specs.Prelude.{nat_lt, codes}
+use Rattle.std.specs.Prelude.{nat_lt}
 use Rattle.std.specs.List.{AllByRecursion, list_any}
 use Rattle.std.specs.Str.{bytes_eq}
 use Rattle.std.proofs.lemmas.Bool.Decides.{nat_tests}
@@ -17,7 +17,7 @@ use Rattle.c_printed.specs.PrintableItem.{is_shown, IsShown}
 use Rattle.c_printed.specs.State.{Macro, State, nothing_known, header_named, listed, unless_known, with_macros, with_headers}
 use Rattle.c_printed.specs.PrintableUnit.{IsBody, IsSame, IsKnown, AllRight, no_header}
 use Rattle.c_printed.specs.Reread.{header_items, header_macros}
-use Rattle.gen_unit.specs.Header.{opening_text, error_name, shown_byte, about, number, message_parts, all_message_parts, opening_parts, include_parts, error_parts, header_parts}
+use Rattle.gen_unit.specs.Header.{opening_text, error_name, bool_header, size_header, integer_header, shown_byte, about, number, message_parts, all_message_parts, opening_parts, include_parts, error_parts, header_parts}
 use Rattle.gen_unit.specs.Small.{IsSmallMessage, AreSmall}
 use Rattle.gen_unit.proofs.Names.{message_macros, all_macros, names, either_false, both_true, GuardIsFree, AreOwn}
 
@@ -138,13 +138,14 @@ none-in-front g (d ∷ ds) h k =
 
 pub prints-header : (ms : List Message) (t : SymbolTable) → AreSmall ms → GuardIsFree t.guard → AreOwn t.guard (all_macros ms t.messages)
     → Prints nothing_known (header_parts ms t) (front t.guard ++ all_macros ms t.messages)
+unfolding bool_header size_header integer_header
 prints-header ms t small g own =
     let guard = t.guard in
     let ds = all_macros ms t.messages in
     let no_error : look_up error_name ((guard, None) ∷ []) ≡ None = ap (λ b. cond b (Some None) None) g.not_error in
     let messages = all_message_parts ms t.messages ++ end_if ∷ [] in
     let s1 = with_macros nothing_known ((guard, None) ∷ []) in
-    let s2 = with_headers (with_headers (with_headers s1 (listed (header_named (codes "stdbool.h")))) (listed (header_named (codes "stddef.h")))) (listed (header_named (codes "stdint.h"))) in
+    let s2 = with_headers (with_headers (with_headers s1 (listed (header_named bool_header))) (listed (header_named size_header))) (listed (header_named integer_header)) in
     let s3 = with_macros s2 ((error_name, Some (number 22 10 false)) ∷ []) in
     let body = prints-messages s3 ms t.messages small own.free own.distinct (none-in-front guard ds own.no_guard own.no_error) in
     let error : Prints s2 (error_parts ++ messages) ((error_name, Some (number 22 10 false)) ∷ ds) =
@@ -152,9 +153,9 @@ prints-header ms t small g own =
         (prints-define s2 error_name (Some (number 22 10 false)) (end_if ∷ blank ∷ messages) ds error-free (decimal-constant 22 false (omega arith), tt) no_error
         (prints-end s3 (blank ∷ messages) ds (prints-blank s3 messages ds body))) in
     let includes : Prints s1 (include_parts ++ (error_parts ++ messages)) ((error_name, Some (number 22 10 false)) ∷ ds) =
-        prints-include s1 (codes "stdbool.h") _ _ tt
-        (prints-include _ (codes "stddef.h") _ _ tt
-        (prints-include _ (codes "stdint.h") _ _ tt (prints-blank s2 (error_parts ++ messages) _ error))) in
+        prints-include s1 bool_header _ _ tt
+        (prints-include _ size_header _ _ tt
+        (prints-include _ integer_header _ _ tt (prints-blank s2 (error_parts ++ messages) _ error))) in
     prints-comment nothing_known (map shown_byte opening_text) _ _ (shown opening_text)
     (prints-blank nothing_known _ _
     (prints-ifndef nothing_known guard _ _ g.free refl

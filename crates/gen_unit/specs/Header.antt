@@ -14,6 +14,15 @@ opening_text = codes "Generated from a CAN database. Do not edit."
 unfoldable pub error_name : List ℕ
 error_name = codes "EINVAL"
 
+unfoldable pub bool_header : List ℕ
+bool_header = codes "stdbool.h"
+
+unfoldable pub size_header : List ℕ
+size_header = codes "stddef.h"
+
+unfoldable pub integer_header : List ℕ
+integer_header = codes "stdint.h"
+
 -- ---- comments
 
 -- what may stand in a comment: no byte that could end it, splice a line or begin a trigraph, and none outside ASCII's printed ones
@@ -63,7 +72,7 @@ abbrev pub opening_parts : List ℕ → List Part
 opening_parts guard = remark opening_text ∷ blank ∷ if_not_defined guard ∷ define guard None ∷ blank ∷ []
 
 abbrev pub include_parts : List Part
-include_parts = include (codes "stdbool.h") ∷ include (codes "stddef.h") ∷ include (codes "stdint.h") ∷ blank ∷ []
+include_parts = include bool_header ∷ include size_header ∷ include integer_header ∷ blank ∷ []
 
 abbrev pub error_parts : List Part
 error_parts = if_not_defined error_name ∷ define error_name (Some (number 22 10 false)) ∷ end_if ∷ blank ∷ []

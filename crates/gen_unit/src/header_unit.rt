@@ -1,6 +1,7 @@
 //! The header as a list of parts.
 ghost use Rattle.std.specs.Prelude.{◌≡◌, ◌++◌, ◌∷◌, [], IfOk, OnOk};
 ghost use Rattle.c_printer.specs.BarePart.{bare_parts};
+ghost use Rattle.gen_unit.specs.Header as header;
 ghost use Rattle.gen_unit.specs.Header.{about, remark, message_parts, all_message_parts, opening_text, error_name, opening_parts, include_parts, error_parts, header_parts};
 
 use crate::parts::{
@@ -51,12 +52,33 @@ fn put_opening(alloc: Global, parts: &mut List<Part>, guard: &[u8]) -> Result<()
     put_blank(parts)
 }
 
+#[tactic(auto, unfolding(crate::specs::Header::bool_header))]
+fn bool_header() -> &'static [u8]
+    ensures { result.now ≡ header.bool_header }
+{
+    b"stdbool.h"
+}
+
+#[tactic(auto, unfolding(crate::specs::Header::size_header))]
+fn size_header() -> &'static [u8]
+    ensures { result.now ≡ header.size_header }
+{
+    b"stddef.h"
+}
+
+#[tactic(auto, unfolding(crate::specs::Header::integer_header))]
+fn integer_header() -> &'static [u8]
+    ensures { result.now ≡ header.integer_header }
+{
+    b"stdint.h"
+}
+
 fn put_includes(alloc: Global, parts: &mut List<Part>) -> Result<(), Memory>
     ensures { OnOk result (bare_parts parts.new ≡ bare_parts parts.old ++ include_parts) }
 {
-    put_include(alloc, parts, b"stdbool.h")?;
-    put_include(alloc, parts, b"stddef.h")?;
-    put_include(alloc, parts, b"stdint.h")?;
+    put_include(alloc, parts, bool_header())?;
+    put_include(alloc, parts, size_header())?;
+    put_include(alloc, parts, integer_header())?;
     put_blank(parts)
 }
 
