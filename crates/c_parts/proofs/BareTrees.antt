@@ -13,12 +13,14 @@ use Rattle.c_tree.specs.declared.statement.AssignOp.{AssignOp}
 use Rattle.c_tree.specs.declared.statement.Stmt.{Stmt}
 use Rattle.c_tree.specs.declared.statement.StmtKind.{the_lemmas as stmt_lemmas}
 use Rattle.c_tree.specs.declared.statement.StmtKind.TheVariants as s
+use Rattle.c_tree.specs.declared.statement.SwitchPart.{SwitchPart}
+use Rattle.c_tree.specs.declared.statement.SwitchPart.TheVariants.{Label, Statement}
 use Rattle.c_tree.specs.ExpressionCut.{node}
 use Rattle.c_tree.specs.StatementCut.{stmt}
 use Rattle.c_tree.specs.BareExpression as t
 use Rattle.c_tree.specs.BareExpression.{bare_expression}
 use Rattle.c_tree.specs.BareStatement as a
-use Rattle.c_tree.specs.BareStatement.{bare_option, bare_all, bare_statement, actions_of}
+use Rattle.c_tree.specs.BareStatement.{a_label, a_statement, bare_switch_part, bare_option, bare_all, bare_statement, actions_of, parts_of}
 
 -- ---- expressions
 
@@ -83,3 +85,14 @@ bare-return p v = search (rules, stmt_lemmas)
 
 pub bare-break : (p : Place) → bare_statement (stmt p s.Break) ≡ a.break
 bare-break p = search (rules, stmt_lemmas)
+
+-- ---- the parts of a switch
+
+pub bare-switch : (p : Place) (v : Expr) (parts : List SwitchPart) → bare_statement (stmt p (s.Switch v parts)) ≡ a.switch (bare_expression v) (parts_of (map bare_switch_part parts))
+bare-switch p v parts = search (rules, stmt_lemmas)
+
+pub bare-label : (v : Option Expr) (p : Place) → bare_switch_part (Label v p) ≡ a_label (bare_option v)
+bare-label v p = search (rules, stmt_lemmas)
+
+pub bare-statement-part : (x : Stmt) → bare_switch_part (Statement x) ≡ a_statement (bare_statement x)
+bare-statement-part x = search (rules, stmt_lemmas)

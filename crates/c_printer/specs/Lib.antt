@@ -1,3 +1,2 @@
--- What the contracts rest on: what parts, and what stands inside trees, are without places.
-pub mod BareKind
+-- What the contracts rest on: what parts are without places, and the bytes of a unit.
 pub mod BarePart

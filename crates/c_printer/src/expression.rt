@@ -1,10 +1,9 @@
 //! The texts of expressions (ISO/IEC 9899:1999, 6.5).
 ghost use Rattle.std.specs.Prelude.{◌≡◌, ◌++◌, true, codes, OnOk};
-ghost use Rattle.c_tree.specs.BareExpression.{bare_expression};
+ghost use Rattle.c_tree.specs.BareExpression.{bare_expression, bare_kind};
 ghost use Rattle.c_tree.specs.BareStatement.{bare_all};
 ghost use Rattle.c_printed.specs.Spelling as words;
 ghost use Rattle.c_printed.specs.PrintedExpression as spec;
-ghost use Rattle.c_printer.specs.BareKind.{bare_kind};
 
 use crate::constant::print_constant;
 use crate::spelling::{callee_text, operator_text, print_type, sign_text};

@@ -2,12 +2,11 @@
 //! its own. Indents are counted in blanks.
 ghost use Rattle.std.specs.Prelude.{◌≡◌, ◌++◌, ◌+◌, true, codes, OnOk, IfOk, map};
 ghost use Rattle.c_tree.specs.BareExpression.{bare_expression};
-ghost use Rattle.c_tree.specs.BareStatement.{bare_statement, bare_option, bare_all, bare_branches, actions_of, parts_of};
+ghost use Rattle.c_tree.specs.BareStatement.{bare_statement, bare_statement_kind, bare_switch_part, bare_option, bare_all, bare_branches, actions_of, parts_of};
 ghost use Rattle.c_tree.specs.BareStatement as tree;
 ghost use Rattle.c_printed.specs.Spelling as words;
 ghost use Rattle.c_printed.specs.PrintedExpression.{printed};
 ghost use Rattle.c_printed.specs.PrintedStatement as spec;
-ghost use Rattle.c_printer.specs.BareKind.{bare_statement_kind, bare_switch_part};
 
 use crate::expression::{print_call, print_expression};
 use crate::spelling::{assign_text, print_type};

@@ -28,11 +28,11 @@ use Rattle.c_tree.specs.StatementCut.{is_else_key, stmt}
 use Rattle.c_tree.specs.TokenRun.{IsClosed}
 use Rattle.c_parts.specs.StatementPart.{IsStatement, AreStatements, AreParts, plain_key, part_key}
 use Rattle.c_tree.specs.BareExpression.{Tree, constant, name, null, member, element, cast, unary, binary, bracket, bare_expression}
-use Rattle.c_tree.specs.BareStatement.{Action, Actions, Parts, BarePart, declare, assign, discard, empty, block, when, choose, return, break, switch, no_more, then, done, label, statement, a_label, a_statement, actions_of, parts_of, before, kind_step, part_step, stmt_step, bare_statement, bare_option}
+use Rattle.c_tree.specs.BareStatement.{Action, Actions, Parts, BarePart, declare, assign, discard, empty, block, when, choose, return, break, switch, no_more, then, done, label, statement, a_label, a_statement, actions_of, parts_of, before, kind_step, part_step, stmt_step, bare_statement, bare_option, bare_switch_part}
 use Rattle.c_tree.proofs.CaseSteps.{case_value-step}
 use Rattle.c_parts.proofs.ExpressionParts.{closed-none, closed-flat, around-closed, round-opens, round-closes, unlevelled-mark, closed-is}
 use Rattle.c_parts.proofs.StatementParts.{no-statements, more-statements, empty-statement, block-statement, if-statement, if-else-statement, no-parts, case-label, default-label, statement-among-parts, switch-statement}
-use Rattle.c_parts.proofs.BareTrees.{bare-constant, bare-unary, bare-bracket, bare-empty, bare-block, bare-when, bare-choose}
+use Rattle.c_parts.proofs.BareTrees.{bare-constant, bare-unary, bare-bracket, bare-empty, bare-block, bare-when, bare-choose, bare-switch, bare-label, bare-statement-part}
 use Rattle.c_printed.specs.Spelling.{sign_text, assign_text, left_type, left_callee, left}
 use Rattle.c_printed.specs.PrintedExpression.{tokens_of, all_tokens}
 use Rattle.c_printed.specs.PrintedStatement.{value_tokens, result_tokens, action_tokens, actions_tokens, parts_tokens}
@@ -49,20 +49,6 @@ use Rattle.c_tree.specs.declared.expression.ExprKind.TheVariants as e
 use Rattle.c_tree.specs.declared.statement.StmtKind.TheVariants as k
 use Rattle.c_tree.specs.BareExpression as t
 use Rattle.c_tree.specs.BareStatement as a
-
--- ---- switches without their places
-
-abbrev pub bare_part : SwitchPart → BarePart
-bare_part = fold-SwitchPart Action BarePart Action kind_step part_step stmt_step
-
-bare-switch : (p : Place) (v : Expr) (ps : List SwitchPart) → bare_statement (stmt p (k.Switch v ps)) ≡ switch (bare_expression v) (parts_of (map bare_part ps))
-bare-switch p v ps = search (rules, stmt_lemmas)
-
-bare-label : (v : Option Expr) (p : Place) → bare_part (Label v p) ≡ a_label (bare_option v)
-bare-label v p = search (rules, stmt_lemmas)
-
-bare-among : (s : Stmt) → bare_part (Statement s) ≡ a_statement (bare_statement s)
-bare-among s = search (rules, stmt_lemmas)
 
 -- ---- beginnings
 
@@ -87,7 +73,7 @@ pub record StatementsAs (may : Bool) (room : ℕ) (ts : List Token) (list : Acti
 
 pub record PartsAs (room : ℕ) (ts : List Token) (ps : Parts) : Type 0 where
   pub parts : List SwitchPart
-  pub is : parts_of (map bare_part parts) ≡ ps
+  pub is : parts_of (map bare_switch_part parts) ≡ ps
   pub all : AreParts room ts parts
 
 value-quiet : (v : Option Tree) → AllByRecursion NoSemicolon (value_tokens left v)
@@ -260,7 +246,7 @@ first-kind first others ts ks is h = ap (λ us. head_kind (kinds_of us)) (sym is
 no : false ≡ true → ⊥
 no e = cc
 
-bare-labels : (v : Expr) (t : Tree) (p : Place) (qs : List SwitchPart) (ps : Parts) → bare_expression v ≡ t → parts_of (map bare_part qs) ≡ ps → parts_of (map bare_part (Label (Some v) p ∷ qs)) ≡ label (Some t) ps
+bare-labels : (v : Expr) (t : Tree) (p : Place) (qs : List SwitchPart) (ps : Parts) → bare_expression v ≡ t → parts_of (map bare_switch_part qs) ≡ ps → parts_of (map bare_switch_part (Label (Some v) p ∷ qs)) ≡ label (Some t) ps
 bare-labels v t p qs ps e f = (λ j. before (bare-label (Some v) p j) (f j)) ∙ ap (λ u. label (Some u) ps) e
 
 -- a block, from its statements
@@ -420,7 +406,7 @@ mutual
       let kind : y.part.first.kind ≡ head_kind (action_tokens left x) = first-kind y.part.first y.part.others s.left (action_tokens left x) y.part.is s.left_kinds in
       record {
         parts = made;
-        is = (λ j. before (bare-among y.statement j) (z.is j)) ∙ ap (λ u. statement u ps) y.is;
+        is = (λ j. before (bare-statement-part y.statement j) (z.is j)) ∙ ap (λ u. statement u ps) y.is;
         all = subst (λ us. AreParts room us made) (sym s.is)
             (statement-among-parts room (ends x) s.left s.right y.statement z.parts y.part (ap (λ u. part_key (keyword_of u) && not (is_type_word u)) kind ∙ part-begins x h.0 h.1) z.all);
       }

@@ -6,7 +6,7 @@ use Rattle.std.proofs.lemmas.Bool.Decides.{nat_tests}
 use Rattle.std.proofs.Math.Seq.{drop-append_seam}
 use Rattle.c_text.specs.declared.token.Constant.{Constant}
 use Rattle.c_text.specs.declared.token.TokenKind.TheVariants.{Word, Constant as Number, Quoted}
-use Rattle.c_text.specs.Characters.{is_line_end, is_letter, is_digit, goes_on, first_passes, Pass, IsName}
+use Rattle.c_text.specs.Characters.{is_letter, is_digit, goes_on, first_passes, Pass, IsName}
 use Rattle.c_text.specs.IntegerConstant.{constant_of}
 use Rattle.c_text.specs.Piece.{Lexeme, token, line_end, space, bad, one_more, close_at, is_exponent, is_sign, number_goes_on, number_rest, in_string}
 use Rattle.c_text.specs.Tokens.{kinds}
@@ -94,20 +94,7 @@ close_at-all (x ∷ xs) rest h = rw (not-true (x == 42) h.0) (ap one_more (close
 pub kinds-comment : (xs rest : List ℕ) → Pass is_no_star xs → kinds 0 (47 ∷ 42 ∷ (xs ++ 42 ∷ 47 ∷ rest)) ≡ space ∷ kinds 0 rest
 kinds-comment xs rest h = rw (close_at-all xs rest h) (ap (λ ls. space ∷ ls) (rw append_assoc at (kinds-skip (xs ++ 42 ∷ 47 ∷ []) rest)))
 
-abbrev pub is_in_line : ℕ → Bool
-is_in_line b = not (is_line_end b)
-
--- a comment up to the line's end leaves that end
-pub kinds-line_comment : (xs rest : List ℕ) → Pass is_in_line xs → kinds 0 (47 ∷ 47 ∷ (xs ++ 10 ∷ rest)) ≡ space ∷ line_end ∷ kinds 0 rest
-kinds-line_comment xs rest h = rw (take_while-all is_in_line (47 ∷ xs) (10 ∷ rest) (refl, h) refl) (ap (λ ls. space ∷ ls) (kinds-skip (47 ∷ xs) (10 ∷ rest)))
-
 -- ---- white space
-
-pub kinds-line_end : (ys : List ℕ) → kinds 0 (10 ∷ ys) ≡ line_end ∷ kinds 0 ys
-kinds-line_end ys = refl
-
-pub kinds-blank : (ys : List ℕ) → kinds 0 (32 ∷ ys) ≡ space ∷ kinds 0 ys
-kinds-blank ys = refl
 
 pub kinds-blanks : (n : ℕ) (rest : List ℕ) → kinds 0 (replicate n 32 ++ rest) ≡ replicate n space ++ kinds 0 rest
 kinds-blanks zero rest = refl

@@ -1,9 +1,9 @@
 -- The texts of constants are read as the constants.
 use Rattle.std.proofs.Common.{◌≡◌, ℕ, zero, suc, ◌^◌, ◌<◌, ◌≤◌, List, [], ◌∷◌, ◌++◌, length, get_or, Some, refl, arith, true, false, ◌==◌}
-use Rattle.std.specs.Fmt.{decimal, digits}
+use Rattle.std.specs.Fmt.{decimal}
 use Rattle.std.specs.Char.{digit_value}
 use Rattle.std.specs.Str.Parse.{AllDigits, digits_value}
-use Rattle.std.proofs.lemmas.Fmt.{decimal_is_IsNumeral, digits_is_IsNumeral, first_decimal, decimal_digit}
+use Rattle.std.proofs.lemmas.Fmt.{decimal_is_IsNumeral, first_decimal, decimal_digit}
 use Rattle.std.proofs.lemmas.Bool.{lt-ltb}
 use Rattle.std.proofs.lemmas.Bool.Decides.{nat_tests}
 use Rattle.std.proofs.Math.Seq.{drop-append_seam}
@@ -93,13 +93,6 @@ kinds-hexadecimal ds bs rest s all some small x e =
     kinds-constant 48 (120 ∷ (ds ++ bs)) rest (constant (digits_value 16 ds) 16 s) refl
     (refl, pass-append goes_on ds bs (digits-go_on 16 ds (omega arith) all) x.go_on)
     (constant_in-digits 16 ds bs s (omega arith) all some small x) e
-
--- the shortest lower-case hexadecimal text of a number below 2^64, with a suffix
-pub kinds-hexadecimal_of : (v : ℕ) (bs rest : List ℕ) (s : Suffix) → v < 2 ^ 64 → IsSuffix bs s → first_passes goes_on_with_number rest ≡ false
-    → kinds 0 (48 ∷ 120 ∷ ((digits 16 false v ++ bs) ++ rest)) ≡ token (Number (constant v 16 s)) ∷ kinds 0 rest
-kinds-hexadecimal_of v bs rest s h x e =
-    let i = digits_is_IsNumeral 16 false (omega arith) (omega arith) v (omega arith) in
-    rw i.1 at (kinds-hexadecimal (digits 16 false v) bs rest s i.0.1 i.0.0 (rw i.1 h) x e)
 
 -- ---- the suffixes
 

@@ -1,15 +1,11 @@
 -- The lines that a header is put together from.
-use Rattle.std.proofs.Common.{◌≡◌, ℕ, true, false, cond, List, [], ◌∷◌, ◌++◌, codes, Option, Some, Result, Ok, ◌^◌, ◌<◌, refl, ap, ◌∙◌, append_assoc, arith}
-use Rattle.std.specs.Fmt.{decimal, digits}
-use Rattle.std.proofs.lemmas.Fmt.{decimal_is_IsNumeral, digits_is_IsNumeral}
+use Rattle.std.proofs.Common.{◌≡◌, ℕ, true, false, cond, List, [], ◌∷◌, ◌++◌, codes, Option, Some, Result, Ok, refl, ap, ◌∙◌, append_assoc}
 use Rattle.std.proofs.lemmas.Slice.Eq.{bytes_eq-Decides}
 use Rattle.c_text.specs.declared.token.TokenKind.{TokenKind}
-use Rattle.c_text.specs.declared.token.TokenKind.TheVariants.{Word, Constant as Number, Quoted, Mark}
-use Rattle.c_text.specs.declared.token.Constant.{Constant}
+use Rattle.c_text.specs.declared.token.TokenKind.TheVariants.{Word, Quoted, Mark}
 use Rattle.c_text.specs.declared.refusal.CKind.{CKind}
 use Rattle.c_text.specs.declared.refusal.CKind.TheVariants.{UnknownHeader}
-use Rattle.c_text.specs.Characters.{goes_on, first_passes, Pass, IsName}
-use Rattle.c_text.specs.IntegerConstant.{Suffix}
+use Rattle.c_text.specs.Characters.{Pass, IsName}
 use Rattle.c_text.specs.Splice.{is_plain}
 use Rattle.c_text.specs.Piece.{token, line_end, space, in_string}
 use Rattle.c_text.specs.Tokens.{kinds, onto}
@@ -18,9 +14,8 @@ use Rattle.c_text.specs.BareTokens.{bare_token, bare_gathered}
 use Rattle.c_text.specs.StandardHeader.{header_of, stdbool_h, stddef_h, stdint_h, string_h}
 use Rattle.c_text.specs.Directive.{standard, quoted, define, conditional, endif, refused, directive_word}
 use Rattle.c_text.proofs.Joined.{read_behind, nothing-before, onto-read_behind}
-use Rattle.c_text.proofs.Boundary.{pass-all, pass-append, is_no_star, goes_on_with_number}
-use Rattle.c_text.proofs.Constants.{IsSuffix, IsSuffixOfZero, constant, digits-go_on, kinds-decimal, kinds-hexadecimal_of}
-use Rattle.c_text.proofs.PrintedLines.{hash, word, include_of, kinds-comment_line, kinds-ifndef, kinds-endif, kinds-define_empty, kinds-define, kinds-include_stdbool, kinds-include_stddef, kinds-include_stdint, kinds-include_string, kinds-include_quoted, kinds-bracketed, bytes-plain, name-goes_on}
+use Rattle.c_text.proofs.Boundary.{pass-all, pass-append, is_no_star}
+use Rattle.c_text.proofs.PrintedLines.{hash, word, include_of, kinds-comment_line, kinds-ifndef, kinds-endif, kinds-define_empty, kinds-include_stdbool, kinds-include_stddef, kinds-include_stdint, kinds-include_string, kinds-include_quoted, bytes-plain, name-goes_on}
 use Rattle.c_text.proofs.TextLines.{AreLines}
 
 -- ---- tokens of one line
@@ -100,63 +95,6 @@ define_empty-line beside n h = record {
   fresh = refl;
   lines = refl;
   plain = plain-named (codes "#define ") n (10 ∷ []) (pass-all is_plain (codes "#define ") refl) h (refl, tt);
-}
-
--- ---- numbers as bodies
-
--- a text is this constant before each byte that does not go on with it
-pub record IsNumber (text : List ℕ) (c : Constant) : Type 0 where
-  pub cut : (rest : List ℕ) → first_passes goes_on_with_number rest ≡ false → kinds 0 (text ++ rest) ≡ token (Number c) ∷ kinds 0 rest
-  pub plain : Pass is_plain text
-
-pub decimal-number : (v : ℕ) (bs : List ℕ) (s : Suffix) → v < 2 ^ 64 → IsSuffixOfZero bs s → IsNumber (decimal v ++ bs) (constant v 10 s)
-decimal-number v bs s h x = record {
-  cut = λ rest e. kinds-decimal v bs rest s h x e;
-  plain = let i = decimal_is_IsNumeral v h in bytes-plain (decimal v ++ bs) (pass-append goes_on (decimal v) bs (digits-go_on 10 (decimal v) (omega arith) i.0.1) x.suffix.go_on);
-}
-
-pub hexadecimal-number : (v : ℕ) (bs : List ℕ) (s : Suffix) → v < 2 ^ 64 → IsSuffix bs s → IsNumber (48 ∷ 120 ∷ (digits 16 false v ++ bs)) (constant v 16 s)
-hexadecimal-number v bs s h x = record {
-  cut = λ rest e. kinds-hexadecimal_of v bs rest s h x e;
-  plain =
-      let i = digits_is_IsNumeral 16 false (omega arith) (omega arith) v (omega arith) in
-      (refl, (refl, bytes-plain (digits 16 false v ++ bs) (pass-append goes_on (digits 16 false v) bs (digits-go_on 16 (digits 16 false v) (omega arith) i.0.1) x.go_on)));
-}
-
-pub define_number-line : (beside : Option (List ℕ)) (n c : List ℕ) (k : Constant) → IsName n → IsNumber c k
-    → AreLines beside (codes "#define " ++ (n ++ 32 ∷ (c ++ 10 ∷ []))) (define tt n (apart (Number k) ∷ []) ∷ [])
-unfolding directive_word
-define_number-line beside n c k h x = record {
-  lexemes = hash ∷ word (codes "define") ∷ space ∷ word n ∷ space ∷ token (Number k) ∷ line_end ∷ [];
-  cut = λ rest.
-      ap (λ bs. kinds 0 (codes "#define " ++ bs)) (append_assoc n (32 ∷ (c ++ 10 ∷ [])) rest ∙ ap (λ bs. n ++ 32 ∷ bs) (append_assoc c (10 ∷ []) rest))
-      ∙ kinds-define n (c ++ 10 ∷ rest) h
-      ∙ ap (λ ls. hash ∷ word (codes "define") ∷ space ∷ word n ∷ space ∷ ls) (x.cut (10 ∷ rest) refl);
-  list = first ∷ behind (Word (codes "define")) ∷ apart (Word n) ∷ apart (Number k) ∷ [];
-  gathered = λ ks. onto_each-is (first ∷ behind (Word (codes "define")) ∷ apart (Word n) ∷ apart (Number k) ∷ []) (bare_gathered true false ks);
-  fresh = refl;
-  lines = refl;
-  plain = plain-named (codes "#define ") n (32 ∷ (c ++ 10 ∷ [])) (pass-all is_plain (codes "#define ") refl) h (refl, pass-append is_plain c (10 ∷ []) x.plain (refl, tt));
-}
-
--- the tokens of a constant in brackets, behind a blank
-abbrev pub bracketed : Constant → List Bare
-bracketed k = apart (Mark (codes "(")) ∷ behind (Number k) ∷ behind (Mark (codes ")")) ∷ []
-
-pub define_bracketed-line : (beside : Option (List ℕ)) (n c : List ℕ) (k : Constant) → IsName n → IsNumber c k
-    → AreLines beside (codes "#define " ++ (n ++ 32 ∷ 40 ∷ (c ++ 41 ∷ 10 ∷ []))) (define tt n (bracketed k) ∷ [])
-unfolding directive_word
-define_bracketed-line beside n c k h x = record {
-  lexemes = hash ∷ word (codes "define") ∷ space ∷ word n ∷ space ∷ token (Mark (codes "(")) ∷ token (Number k) ∷ token (Mark (codes ")")) ∷ line_end ∷ [];
-  cut = λ rest.
-      ap (λ bs. kinds 0 (codes "#define " ++ bs)) (append_assoc n (32 ∷ 40 ∷ (c ++ 41 ∷ 10 ∷ [])) rest ∙ ap (λ bs. n ++ 32 ∷ 40 ∷ bs) (append_assoc c (41 ∷ 10 ∷ []) rest))
-      ∙ kinds-define n (40 ∷ (c ++ 41 ∷ 10 ∷ rest)) h
-      ∙ ap (λ ls. hash ∷ word (codes "define") ∷ space ∷ word n ∷ space ∷ ls) (kinds-bracketed c rest (token (Number k)) (x.cut (41 ∷ 10 ∷ rest) refl));
-  list = first ∷ behind (Word (codes "define")) ∷ apart (Word n) ∷ bracketed k;
-  gathered = λ ks. onto_each-is (first ∷ behind (Word (codes "define")) ∷ apart (Word n) ∷ bracketed k) (bare_gathered true false ks);
-  fresh = refl;
-  lines = refl;
-  plain = plain-named (codes "#define ") n (32 ∷ 40 ∷ (c ++ 41 ∷ 10 ∷ [])) (pass-all is_plain (codes "#define ") refl) h (refl, (refl, pass-append is_plain c (41 ∷ 10 ∷ []) x.plain (refl, (refl, tt))));
 }
 
 -- ---- includes

@@ -8,13 +8,10 @@ pub mod Places
 pub mod Reading
 pub mod Left
 pub mod Group
-pub mod Defines
 pub mod PrintedLines
 pub mod TextLines
 pub mod HeaderLines
-pub mod GuardedHeader
 -- Worked values.
 mod Rows
 mod DirectiveRows
 mod HeaderRow
-mod OneDefine

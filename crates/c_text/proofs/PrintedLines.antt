@@ -61,13 +61,6 @@ pub kinds-include_quoted : (name rest : List ℕ) → Pass in_string name → ki
 unfolding mark_at
 kinds-include_quoted name rest h = ap (λ ls. hash ∷ word (codes "include") ∷ space ∷ ls) (kinds-string name (10 ∷ rest) h)
 
--- ---- a body in brackets
-
-pub kinds-bracketed : (c rest : List ℕ) (k : Lexeme) → kinds 0 (c ++ 41 ∷ 10 ∷ rest) ≡ k ∷ kinds 0 (41 ∷ 10 ∷ rest)
-    → kinds 0 (40 ∷ (c ++ 41 ∷ 10 ∷ rest)) ≡ token (Mark (codes "(")) ∷ k ∷ token (Mark (codes ")")) ∷ line_end ∷ kinds 0 rest
-unfolding mark_at
-kinds-bracketed c rest k e = ap (λ ls. token (Mark (codes "(")) ∷ ls) e
-
 -- ---- comments
 
 -- a line that is a comment whose inside has no star
@@ -76,10 +69,7 @@ kinds-comment_line t rest h =
     ap (λ bs. kinds 0 (47 ∷ 42 ∷ 32 ∷ bs)) (sym (append_assoc t (32 ∷ []) (42 ∷ 47 ∷ 10 ∷ rest)))
     ∙ kinds-comment (32 ∷ (t ++ 32 ∷ [])) (10 ∷ rest) (refl, pass-append is_no_star t (32 ∷ []) h (refl, tt))
 
--- ---- names as bytes of comments, strings and plain text
-
-name-no_star : (b : ℕ) → goes_on b ≡ true → is_no_star b ≡ true
-name-no_star b h = grind (arith, nat_tests)
+-- ---- names as bytes of strings and plain text
 
 name-in_string : (b : ℕ) → goes_on b ≡ true → in_string b ≡ true
 name-in_string b h = grind (arith, nat_tests)
@@ -97,9 +87,6 @@ pass-weaker p q f (b ∷ bs) h = (f b h.0, pass-weaker p q f bs h.1)
 pub name-goes_on : (n : List ℕ) → IsName n → Pass goes_on n
 name-goes_on [] h = tt
 name-goes_on (b ∷ bs) h = (letter-goes_on b h.0, h.1)
-
-pub bytes-no_star : (n : List ℕ) → Pass goes_on n → Pass is_no_star n
-bytes-no_star n h = pass-weaker goes_on is_no_star name-no_star n h
 
 pub bytes-in_string : (n : List ℕ) → Pass goes_on n → Pass in_string n
 bytes-in_string n h = pass-weaker goes_on in_string name-in_string n h
