@@ -7,7 +7,8 @@ use c_text::Constant;
 use itoa::Buffer;
 use std::alloc::AllocError;
 
-/// Appends a constant, in a function (`wide`) or in the body of a macro.
+/// Appends a constant, in a function (`wide`) or in the body of a macro; the `u` of its suffix
+/// stands before the `l`.
 pub fn print_constant(constant: Constant, wide: bool, out: &mut Vec<u8>) -> Result<(), AllocError>
     ensures { OnOk result (out.new.items ≡ out.old.items ++ spec.constant_text wide constant) }
 {
@@ -32,7 +33,7 @@ fn long_suffix(longs: u8) -> &'static [u8]
     }
 }
 
-/// Appends a value in the base 8, 10 or 16.
+/// Appends a value in the base 8, behind `0`, in the base 10, or in the base 16, behind `0x`.
 fn print_value(value: u64, base: u8, wide: bool, out: &mut Vec<u8>) -> Result<(), AllocError>
     ensures { OnOk result (out.new.items ≡ out.old.items ++ spec.value_text wide base value) }
 {
@@ -54,7 +55,7 @@ fn print_hex(value: u64, wide: bool, out: &mut Vec<u8>) -> Result<(), AllocError
     print_hex_digits(value, least_width(value, wide), out)
 }
 
-/// How many digits a value has at least.
+/// How many hexadecimal digits a value has at least.
 fn least_width(value: u64, wide: bool) -> u32
     ensures { result ≡ (if wide then spec.hex_width value else 0) }
 {
@@ -76,7 +77,7 @@ fn hex_width(value: u64) -> u32
     }
 }
 
-/// Appends the hexadecimal digits of a value, at least so many.
+/// Appends the hexadecimal digits of a value, with zeros before them to so many.
 #[tactic(auto, using(crate::proofs::Digits::hex_steps))]
 fn print_hex_digits(value: u64, width: u32, out: &mut Vec<u8>) -> Result<(), AllocError>
     ensures { OnOk result (out.new.items ≡ out.old.items ++ spec.padded width (digits 16 false value)) }
@@ -100,6 +101,7 @@ fn last_digit(value: u64) -> u8
     }
 }
 
+/// Appends the octal digits of a value.
 #[tactic(auto, using(crate::proofs::Digits::octal_steps))]
 fn print_octal_digits(value: u64, out: &mut Vec<u8>) -> Result<(), AllocError>
     ensures { OnOk result (out.new.items ≡ out.old.items ++ digits 8 false value) }

@@ -1,14 +1,13 @@
 //! The texts of expressions (ISO/IEC 9899:1999, 6.5).
 ghost use Rattle.std.specs.Prelude.{◌≡◌, ◌++◌, true, codes, OnOk};
-ghost use Rattle.c_tree.specs.BareExpression.{bare_expression, bare_kind};
+ghost use Rattle.c_tree.specs.BareExpression.{bare_expression};
 ghost use Rattle.c_tree.specs.BareStatement.{bare_all};
 ghost use Rattle.c_printed.specs.Spelling as words;
 ghost use Rattle.c_printed.specs.PrintedExpression as spec;
 
 use crate::constant::print_constant;
 use crate::spelling::{callee_text, operator_text, print_type, sign_text};
-use c_text::Spelled;
-use c_tree::{BinaryOp, Callee, Expr, ExprKind, UnaryOp};
+use c_tree::{Callee, Expr, ExprKind};
 use std::alloc::AllocError;
 
 /// Appends an expression, in a function (`wide`) or in the body of a macro.
@@ -16,14 +15,7 @@ use std::alloc::AllocError;
 pub fn print_expression(expr: &Expr, wide: bool, out: &mut Vec<u8>) -> Result<(), AllocError>
     ensures { OnOk result (out.new.items ≡ out.old.items ++ spec.printed wide (bare_expression expr.now)) }
 {
-    print_kind(&expr.kind, wide, out)
-}
-
-#[cycle(expressions)]
-fn print_kind(kind: &ExprKind, wide: bool, out: &mut Vec<u8>) -> Result<(), AllocError>
-    ensures { OnOk result (out.new.items ≡ out.old.items ++ spec.printed wide (bare_kind kind.now)) }
-{
-    match kind {
+    match &expr.kind {
         ExprKind::Constant(constant) => print_constant(*constant, wide, out),
         ExprKind::Name(name) => out.extend_from_slice(name.bytes()),
         ExprKind::Null => out.extend_from_slice(b"NULL"),
@@ -64,7 +56,7 @@ fn print_kind(kind: &ExprKind, wide: bool, out: &mut Vec<u8>) -> Result<(), Allo
     }
 }
 
-/// Appends a call.
+/// Appends a call (6.5.2.2), of an expression or of a statement.
 #[cycle(expressions)]
 pub fn print_call(
     function: &Callee,
@@ -81,6 +73,7 @@ pub fn print_call(
     Ok(())
 }
 
+/// Appends the arguments of a call, with a comma and a blank between.
 #[cycle(expressions)]
 fn print_arguments(args: &[Expr], wide: bool, out: &mut Vec<u8>) -> Result<(), AllocError>
     ensures { OnOk result (out.new.items ≡ out.old.items ++ spec.separated wide true (bare_all args.now)) }

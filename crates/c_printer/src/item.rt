@@ -11,7 +11,7 @@ use c_tree::{CType, Field, Function, Stmt, Struct, Target};
 use cg_out::{List, Text};
 use std::alloc::AllocError;
 
-/// Appends a type and a name of that type.
+/// Appends the declaration of a name (6.7.5): its type, and the name.
 fn print_named(kind: &CType, name: &[u8], out: &mut Vec<u8>) -> Result<(), AllocError>
     ensures { OnOk result (out.new.items ≡ out.old.items ++ spec.named_text kind.now name.now) }
 {
@@ -36,6 +36,7 @@ fn const_text(constant: bool) -> &'static [u8]
     if constant { b"const " } else { b"" }
 }
 
+/// Appends what a pointer points to.
 fn print_target(target: &Target, out: &mut Vec<u8>) -> Result<(), AllocError>
     ensures { OnOk result (out.new.items ≡ out.old.items ++ spec.target_text target.now) }
 {
@@ -104,6 +105,7 @@ pub fn print_function(function: &Function, out: &mut Vec<u8>) -> Result<(), Allo
     Ok(())
 }
 
+/// Appends what stands before the body of a function.
 fn print_head(function: &Function, out: &mut Vec<u8>) -> Result<(), AllocError>
     ensures { OnOk result (out.new.items ≡ out.old.items ++ spec.head_text (bare_head function.now)) }
 {
@@ -121,7 +123,7 @@ fn static_text(fixed: bool) -> &'static [u8]
     if fixed { b"static " } else { b"" }
 }
 
-/// Appends the parameters, or `void` where there are none.
+/// Appends the parameters of a function, or `void` where there are none (6.7.5.3).
 fn print_all_params(params: &[Field], out: &mut Vec<u8>) -> Result<(), AllocError>
     ensures { OnOk result (out.new.items ≡ out.old.items ++ spec.all_params_text (map bare_field params.now)) }
 {
@@ -132,6 +134,7 @@ fn print_all_params(params: &[Field], out: &mut Vec<u8>) -> Result<(), AllocErro
     }
 }
 
+/// Appends parameters, with a comma and a blank between.
 fn print_params(params: &[Field], out: &mut Vec<u8>) -> Result<(), AllocError>
     ensures { OnOk result (out.new.items ≡ out.old.items ++ spec.params_text true (map bare_field params.now)) }
 {
@@ -146,6 +149,7 @@ fn print_params(params: &[Field], out: &mut Vec<u8>) -> Result<(), AllocError>
     Ok(())
 }
 
+/// Appends the statements of a definition in their braces, or the semicolon of a prototype.
 fn print_body(body: &Option<List<Stmt>>, out: &mut Vec<u8>) -> Result<(), AllocError>
     ensures { OnOk result (out.new.items ≡ out.old.items ++ spec.body_text (bare_body body.now)) }
 {

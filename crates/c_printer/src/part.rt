@@ -32,7 +32,7 @@ pub enum Part {
     IfNotDefined(Text),
     /// `#endif`.
     EndIf,
-    /// One comment for each field, in order; an empty one is not printed.
+    /// One comment for each field, in order; an empty one is not printed, nor one that is lacking.
     Struct { item: Struct, comments: List<Text> },
     /// A prototype, or the definition of a function.
     Function(Function),
@@ -62,6 +62,7 @@ fn print_comment(text: &[u8], out: &mut Vec<u8>) -> Result<(), AllocError>
     out.extend_from_slice(b" */\n")
 }
 
+/// Appends the inclusion of a header (6.10.2).
 fn print_include(name: &[u8], quoted: bool, out: &mut Vec<u8>) -> Result<(), AllocError>
     ensures { OnOk result (out.new.items ≡ out.old.items ++ spec.part_text (included quoted name.now)) }
 {
@@ -73,6 +74,7 @@ fn print_include(name: &[u8], quoted: bool, out: &mut Vec<u8>) -> Result<(), All
     Ok(())
 }
 
+/// Appends the definition of a macro (6.10.3).
 fn print_define(name: &[u8], body: &Option<Expr>, out: &mut Vec<u8>) -> Result<(), AllocError>
     ensures { OnOk result (out.new.items ≡ out.old.items ++ spec.part_text (spec.define name.now (bare_option body.now))) }
 {

@@ -1,4 +1,5 @@
-//! How operators, types of integers and what a call names are spelled.
+//! How operators, types of integers and what a call names are spelled (ISO/IEC 9899:1999, 6.4.1,
+//! 6.4.6, 7.16 to 7.18 and 7.21.6.1).
 ghost use Rattle.std.specs.Prelude.{◌≡◌, ◌++◌, OnOk};
 ghost use Rattle.c_printed.specs.Spelling as spec;
 
@@ -6,6 +7,7 @@ use c_text::{IntType, Spelled};
 use c_tree::{AssignOp, BinaryOp, Callee, UnaryOp};
 use std::alloc::AllocError;
 
+/// A prefix operator (6.5.3.3).
 pub fn sign_text(op: UnaryOp) -> &'static [u8]
     ensures { result.now ≡ spec.sign_text op }
 {
@@ -56,7 +58,7 @@ pub fn assign_text(op: AssignOp) -> &'static [u8]
     }
 }
 
-/// A type that is spelled by keywords, and `bool`.
+/// A type that is spelled by keywords (6.7.2), and `bool` (7.16), with a blank between two words.
 fn plain_text(kind: IntType) -> &'static [u8]
     ensures { result.now ≡ spec.spaced (spec.plain_words kind) }
 {
@@ -75,7 +77,7 @@ fn plain_text(kind: IntType) -> &'static [u8]
     }
 }
 
-/// The digits of a width in bits, of which there are 8, 16, 32 and 64.
+/// The digits of the width of an exact-width type, which is 8, 16, 32 or 64 bits.
 fn width_text(width: u32) -> &'static [u8]
     ensures { result.now ≡ spec.width_text width }
 {
@@ -90,13 +92,14 @@ fn width_text(width: u32) -> &'static [u8]
     }
 }
 
+/// What an exact-width type (7.18.1.1) begins with.
 fn sign_letter(signed: bool) -> &'static [u8]
     ensures { result.now ≡ spec.sign_letter signed }
 {
     if signed { b"" } else { b"u" }
 }
 
-/// Appends the words of a type, with a blank between.
+/// Appends a type of integers.
 pub fn print_type(kind: Spelled, out: &mut Vec<u8>) -> Result<(), AllocError>
     ensures { OnOk result (out.new.items ≡ out.old.items ++ spec.type_text kind) }
 {
@@ -112,6 +115,7 @@ pub fn print_type(kind: Spelled, out: &mut Vec<u8>) -> Result<(), AllocError>
     }
 }
 
+/// The name of what a call calls.
 pub fn callee_text(function: &Callee) -> &[u8]
     ensures { result.now ≡ spec.callee_text function.now }
 {

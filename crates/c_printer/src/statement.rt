@@ -1,21 +1,20 @@
-//! The texts of statements (ISO/IEC 9899:1999, 6.8) and of declarations of locals, each on lines of
-//! its own. Indents are counted in blanks.
+//! The texts of statements (ISO/IEC 9899:1999, 6.8) and of declarations of locals (6.7), each on
+//! lines of its own. An indent is a number of blanks.
 ghost use Rattle.std.specs.Prelude.{◌≡◌, ◌++◌, ◌+◌, true, codes, OnOk, IfOk, map};
 ghost use Rattle.c_tree.specs.BareExpression.{bare_expression};
-ghost use Rattle.c_tree.specs.BareStatement.{bare_statement, bare_statement_kind, bare_switch_part, bare_option, bare_all, bare_branches, actions_of, parts_of};
+ghost use Rattle.c_tree.specs.BareStatement.{bare_statement, bare_switch_part, bare_option, bare_all, actions_of, parts_of};
 ghost use Rattle.c_tree.specs.BareStatement as tree;
-ghost use Rattle.c_printed.specs.Spelling as words;
 ghost use Rattle.c_printed.specs.PrintedExpression.{printed};
 ghost use Rattle.c_printed.specs.PrintedStatement as spec;
+ghost use Rattle.c_printer.specs.SwitchPartText.{switch_part_text};
 
 use crate::expression::{print_call, print_expression};
 use crate::spelling::{assign_text, print_type};
 use c_text::Spelled;
 use c_tree::{AssignOp, Callee, Expr, Stmt, StmtKind, SwitchPart};
-use cg_out::Boxed;
 use std::alloc::AllocError;
 
-/// The indent of what stands inside; no text has room for one past the numbers of the machine.
+/// The indent of what stands inside. Memory has no room for one past the numbers of the machine.
 fn deeper(indent: usize) -> Result<usize, AllocError>
     ensures { IfOk result (λ n. n ≡ indent + 4) }
 {
@@ -32,7 +31,7 @@ fn print_blanks(count: usize, out: &mut Vec<u8>) -> Result<(), AllocError>
     Ok(())
 }
 
-/// Appends a text behind its indent.
+/// Appends the beginning of a line, or all of it, behind its indent.
 fn print_line(text: &[u8], indent: usize, out: &mut Vec<u8>) -> Result<(), AllocError>
     ensures { OnOk result (out.new.items ≡ out.old.items ++ (spec.blanks indent ++ text.now)) }
 {
@@ -40,6 +39,7 @@ fn print_line(text: &[u8], indent: usize, out: &mut Vec<u8>) -> Result<(), Alloc
     out.extend_from_slice(text)
 }
 
+/// Appends the declaration of a local, as `int a = 1;`.
 fn print_declaration(
     kind: Spelled,
     name: &[u8],
@@ -57,6 +57,7 @@ fn print_declaration(
     out.extend_from_slice(b";\n")
 }
 
+/// Appends the value that a local begins with (6.7.8), where it has one.
 fn print_initial_value(value: &Option<Expr>, out: &mut Vec<u8>) -> Result<(), AllocError>
     ensures { OnOk result (out.new.items ≡ out.old.items ++ spec.value_text (bare_option value.now)) }
 {
@@ -98,6 +99,7 @@ fn print_call_statement(
     out.extend_from_slice(b";\n")
 }
 
+/// Appends a name that is used and dropped (6.3.2.2), as `(void)a;`.
 fn print_discard(name: &[u8], indent: usize, out: &mut Vec<u8>) -> Result<(), AllocError>
     ensures { OnOk result (out.new.items ≡ out.old.items ++ spec.action_text indent (tree.discard name.now)) }
 {
@@ -114,6 +116,7 @@ fn print_return(value: &Option<Expr>, indent: usize, out: &mut Vec<u8>) -> Resul
     out.extend_from_slice(b";\n")
 }
 
+/// Appends what is returned (6.8.6.4), where something is.
 fn print_result(value: &Option<Expr>, out: &mut Vec<u8>) -> Result<(), AllocError>
     ensures { OnOk result (out.new.items ≡ out.old.items ++ spec.result_text (bare_option value.now)) }
 {
@@ -126,7 +129,7 @@ fn print_result(value: &Option<Expr>, out: &mut Vec<u8>) -> Result<(), AllocErro
     }
 }
 
-/// Appends the line that opens a block behind an expression in brackets, as that of an `if`.
+/// Appends the line that opens a block behind an expression in brackets, as `if (a) {`.
 fn print_head(
     start: &[u8],
     value: &Expr,
@@ -145,14 +148,7 @@ fn print_head(
 fn print_statement(stmt: &Stmt, indent: usize, out: &mut Vec<u8>) -> Result<(), AllocError>
     ensures { OnOk result (out.new.items ≡ out.old.items ++ spec.action_text indent (bare_statement stmt.now)) }
 {
-    print_kind(&stmt.kind, indent, out)
-}
-
-#[cycle(statements)]
-fn print_kind(kind: &StmtKind, indent: usize, out: &mut Vec<u8>) -> Result<(), AllocError>
-    ensures { OnOk result (out.new.items ≡ out.old.items ++ spec.action_text indent (bare_statement_kind kind.now)) }
-{
-    match kind {
+    match &stmt.kind {
         StmtKind::Declare { kind, name, value } => {
             print_declaration(*kind, name.bytes(), value, indent, out)
         }
@@ -194,14 +190,7 @@ fn print_kind(kind: &StmtKind, indent: usize, out: &mut Vec<u8>) -> Result<(), A
 fn print_inner(stmt: &Stmt, indent: usize, out: &mut Vec<u8>) -> Result<(), AllocError>
     ensures { OnOk result (out.new.items ≡ out.old.items ++ spec.inner_text indent (bare_statement stmt.now)) }
 {
-    print_inner_kind(&stmt.kind, indent, out)
-}
-
-#[cycle(statements)]
-fn print_inner_kind(kind: &StmtKind, indent: usize, out: &mut Vec<u8>) -> Result<(), AllocError>
-    ensures { OnOk result (out.new.items ≡ out.old.items ++ spec.inner_text indent (bare_statement_kind kind.now)) }
-{
-    match kind {
+    match &stmt.kind {
         StmtKind::Block(list) => print_statements(list.items(), indent, out),
         _ => Ok(()),
     }
@@ -229,9 +218,10 @@ fn print_parts(parts: &[SwitchPart], indent: usize, out: &mut Vec<u8>) -> Result
     Ok(())
 }
 
+/// Appends a label, or a statement, whose indent is that of the bodies of an `if`.
 #[cycle(statements)]
 fn print_switch_part(part: &SwitchPart, indent: usize, out: &mut Vec<u8>) -> Result<(), AllocError>
-    ensures { OnOk result (out.new.items ≡ out.old.items ++ spec.parts_text indent (tree.before (bare_switch_part part.now) tree.done)) }
+    ensures { OnOk result (out.new.items ≡ out.old.items ++ switch_part_text indent (bare_switch_part part.now)) }
 {
     match part {
         SwitchPart::Label { value, place: _ } => print_label(value, indent, out),
@@ -239,6 +229,7 @@ fn print_switch_part(part: &SwitchPart, indent: usize, out: &mut Vec<u8>) -> Res
     }
 }
 
+/// Appends a label of a `switch` (6.8.1), on a line of its own.
 fn print_label(value: &Option<Expr>, indent: usize, out: &mut Vec<u8>) -> Result<(), AllocError>
     ensures { OnOk result (out.new.items ≡ out.old.items ++ (spec.blanks indent ++ (spec.label_text (bare_option value.now) ++ codes ":\n"))) }
 {

@@ -6,7 +6,6 @@ use Rattle.c_tree.specs.declared.expression.Callee.{Callee}
 use Rattle.c_tree.specs.declared.expression.UnaryOp.{UnaryOp}
 use Rattle.c_tree.specs.declared.expression.BinaryOp.{BinaryOp}
 use Rattle.c_tree.specs.declared.expression.Expr.{Expr, Expr-F, fold-Expr}
-use Rattle.c_tree.specs.declared.expression.ExprKind.{ExprKind, fold-ExprKind}
 use Rattle.c_tree.specs.declared.expression.ExprKind.TheOpen.{ExprKind-F}
 
 mutual
@@ -53,7 +52,3 @@ expr_step e = e.kind
 -- the expression without its places
 abbrev pub bare_expression : Expr → Tree
 bare_expression = fold-Expr Tree Tree kind_step expr_step
-
--- what stands inside it
-abbrev pub bare_kind : ExprKind → Tree
-bare_kind = fold-ExprKind Tree Tree kind_step expr_step

@@ -5,7 +5,6 @@ use Rattle.c_tree.specs.declared.expression.Callee.{Callee}
 use Rattle.c_tree.specs.declared.expression.Expr.{Expr}
 use Rattle.c_tree.specs.declared.statement.AssignOp.{AssignOp}
 use Rattle.c_tree.specs.declared.statement.Stmt.{Stmt, Stmt-F, fold-Stmt}
-use Rattle.c_tree.specs.declared.statement.StmtKind.{StmtKind, fold-StmtKind}
 use Rattle.c_tree.specs.declared.statement.StmtKind.TheOpen.{StmtKind-F}
 use Rattle.c_tree.specs.declared.statement.SwitchPart.{SwitchPart, SwitchPart-F, fold-SwitchPart}
 use Rattle.c_tree.specs.BareExpression.{Tree, Trees, trees_of, bare_expression}
@@ -89,9 +88,6 @@ stmt_step s = s.kind
 abbrev pub bare_statement : Stmt → Action
 bare_statement = fold-Stmt Action BarePart Action kind_step part_step stmt_step
 
--- what stands inside it, and a part of a switch
-abbrev pub bare_statement_kind : StmtKind → Action
-bare_statement_kind = fold-StmtKind Action BarePart Action kind_step part_step stmt_step
-
+-- a label or a statement of a switch without its places
 abbrev pub bare_switch_part : SwitchPart → BarePart
 bare_switch_part = fold-SwitchPart Action BarePart Action kind_step part_step stmt_step

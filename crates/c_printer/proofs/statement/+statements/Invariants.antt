@@ -1,7 +1,6 @@
 use Rattle.std.proofs.Common.{◌≡◌, ◌++◌, drop, map}
-use Rattle.c_tree.specs.BareStatement.{bare_statement, actions_of, parts_of}
+use Rattle.c_tree.specs.BareStatement.{bare_statement, bare_switch_part, actions_of, parts_of}
 use Rattle.c_printed.specs.PrintedStatement.{actions_text, parts_text}
-use Rattle.c_tree.specs.BareStatement.{bare_switch_part}
 use Rattle.c_printer.proofs.statement.+statements.Given as goal
 
 -- what is so far, with the text of the rest, is the whole
