@@ -1,11 +1,10 @@
 -- A printable tree is printable with names replaced, where what each name stands for is one constant or stands in brackets.
-use Rattle.std.proofs.Common.{◌≡◌, ℕ, zero, suc, ◌+◌, Bool, true, false, List, [], ◌∷◌, Option, Some, None, refl, sym, ap, subst, ◌∙◌}
-use Rattle.c_tree.specs.declared.expression.UnaryOp.{UnaryOp}
+use Rattle.std.proofs.Common.{◌≡◌, ℕ, Bool, true, false, List, Option, Some, None, refl, sym, ap, subst}
 use Rattle.c_tree.specs.declared.expression.UnaryOp.TheVariants as sign
 use Rattle.c_tree.specs.BareExpression.{Tree, Trees, constant, name, null, member, element, call, unary, cast, binary, bracket, none, more}
 use Rattle.c_tree.specs.BareStatement.{Action, Actions, Parts, declare, assign, discard, empty, block, when, choose, return, break, switch, no_more, then, done, label, statement}
 use Rattle.c_tree.specs.BareStatement as a
-use Rattle.c_printed.specs.Printable.{IsFree, first_sign, AreDistinct, AreApart, Fits, FitAll, FitsOption, is_target, IsCase, IsLabel, is_declaration, FitsAction, FitsBlock, FitActions, FitParts}
+use Rattle.c_printed.specs.Printable.{IsFree, first_sign, AreDistinct, Fits, FitAll, FitsOption, is_target, IsCase, IsLabel, is_declaration, FitsAction, FitsBlock, FitActions, FitParts}
 use Rattle.c_printed.specs.PrintableItem.{FitsBody}
 use Rattle.c_printed.specs.Expanded.{Meaning, or_name, expanded, expanded_all, expanded_option, expanded_action, expanded_actions, expanded_parts, expanded_body}
 use Rattle.c_printed.specs.Settled.{Becomes, IsAtom, AimsAt, Settles, SettleAll, SettlesOption, SettlesAction, SettleActions, SettleParts, SettlesBody}

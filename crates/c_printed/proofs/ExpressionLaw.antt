@@ -1,12 +1,11 @@
 -- The text of an expression has its tokens.
-use Rattle.std.proofs.Common.{◌≡◌, ◌||◌, ℕ, zero, suc, ◌+◌, ◌<◌, ◌≤◌, Bool, true, false, List, [], ◌∷◌, ◌++◌, length, refl, sym, ap, subst, ◌∙◌, append_assoc, arith}
+use Rattle.std.proofs.Common.{◌≡◌, ◌||◌, ℕ, ◌<◌, ◌≤◌, Bool, true, false, List, [], ◌∷◌, ◌++◌, length, refl, sym, ap, subst, ◌∙◌, append_assoc, arith}
 use Rattle.std.specs.Prelude.{codes, ◌^◌}
 use Rattle.std.specs.Fmt.{decimal}
 use Rattle.std.specs.Char.{digit_value}
 use Rattle.std.specs.Str.Parse.{AllDigits}
 use Rattle.std.proofs.lemmas.Fmt.{decimal_is_IsNumeral}
 use Rattle.std.proofs.lemmas.Bool.Decides.{nat_tests}
-use Rattle.c_text.specs.declared.token.Constant.{Constant}
 use Rattle.c_text.specs.declared.token.TokenKind.TheVariants.{Word, Mark}
 use Rattle.c_tree.specs.declared.expression.UnaryOp.{UnaryOp}
 use Rattle.c_tree.specs.declared.expression.UnaryOp.TheVariants as sign
@@ -18,9 +17,9 @@ use Rattle.c_text.specs.Tokens.{kinds}
 use Rattle.c_text.specs.Characters.{is_letter, first_passes, IsName}
 use Rattle.c_tree.specs.BareExpression.{Tree, Trees, constant, name, null, member, element, call, unary, cast, binary, bracket, none, more}
 use Rattle.c_text.proofs.Marks.{extends}
-use Rattle.c_printed.specs.Spelling.{sign_text, operator_text, between, type_text, type_words, words, value_text, suffix_text, constant_text, callee_text, level_of, written}
+use Rattle.c_printed.specs.Spelling.{sign_text, operator_text, type_words, words, value_text, suffix_text, callee_text, level_of, written}
 use Rattle.c_printed.specs.PrintedExpression.{printed, separated, separator, comma, tokens_of, all_tokens}
-use Rattle.c_printed.specs.Printable.{IsBase, eight, ten, sixteen, IsConstant, AreApart, Fits, FitAll}
+use Rattle.c_printed.specs.Printable.{IsBase, eight, ten, sixteen, AreApart, Fits, FitAll}
 use Rattle.c_printed.proofs.Pieces.{Reads, stops, joined, then, nothing, named, named-before, free-any}
 use Rattle.c_printed.proofs.Spelled.{given-name, reads-operator, opening, closing, opening_square, closing_square, arrow, comma_mark, signed, sign-cut, callee-name, reads-type, reads-constant}
 

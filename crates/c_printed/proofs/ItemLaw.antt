@@ -1,11 +1,9 @@
 -- The texts of structs and functions have their tokens.
-use Rattle.std.proofs.Common.{◌≡◌, ◌||◌, ℕ, zero, suc, ◌+◌, Bool, true, false, List, [], ◌∷◌, ◌++◌, map, Option, Some, None, refl, append_assoc, append-nil, ap, ◌∙◌, arith}
+use Rattle.std.proofs.Common.{◌≡◌, ◌||◌, ℕ, Bool, true, false, List, [], ◌∷◌, ◌++◌, map, Option, Some, None, refl, append_assoc, ap, ◌∙◌, arith}
 use Rattle.std.specs.Prelude.{codes}
 use Rattle.std.specs.List.{AllByRecursion}
 use Rattle.std.proofs.lemmas.Bool.Decides.{nat_tests}
-use Rattle.c_text.specs.declared.token.TokenKind.{TokenKind}
 use Rattle.c_text.specs.declared.token.TokenKind.TheVariants.{Word, Mark}
-use Rattle.c_text.specs.declared.token.Spelled.TheVariants.{Exact}
 use Rattle.c_tree.specs.declared.item.CType.{CType}
 use Rattle.c_tree.specs.declared.item.CType.TheVariants.{Void, Integer, Pointer}
 use Rattle.c_tree.specs.declared.item.Target.{Target}
@@ -22,8 +20,8 @@ use Rattle.c_text.proofs.PrintedLines.{kinds-comment_line, pass-weaker}
 use Rattle.c_printed.specs.Spelling.{type_text, type_words, words, written}
 use Rattle.c_printed.specs.PrintedExpression.{separator, comma}
 use Rattle.c_printed.specs.PrintedStatement.{actions_text, actions_tokens}
-use Rattle.c_printed.specs.Printable.{IsFree, IsType, FitActions}
-use Rattle.c_printed.specs.PrintedItem.{Field, const_text, target_text, named_text, const_tokens, target_tokens, named_tokens, about_text, field_text, fields_text, struct_text, fields_tokens, struct_tokens, params_text, all_params_text, static_text, head_text, body_text, function_text, params_tokens, all_params_tokens, static_tokens, head_tokens, body_tokens, field_of}
+use Rattle.c_printed.specs.Printable.{IsFree}
+use Rattle.c_printed.specs.PrintedItem.{Field, const_text, target_text, named_text, const_tokens, target_tokens, named_tokens, about_text, fields_text, struct_text, fields_tokens, struct_tokens, params_text, all_params_text, static_text, head_text, body_text, function_text, params_tokens, all_params_tokens, static_tokens, head_tokens, body_tokens, field_of}
 use Rattle.c_printed.specs.PrintableItem.{is_shown, IsShown, IsTarget, IsParameter, IsParameterType, IsIntegerType, IsReturned, IsField, IsHead, FitsBody}
 use Rattle.c_printed.proofs.Pieces.{Reads, stops, joined, nothing, named, free-any, given}
 use Rattle.c_printed.proofs.Spelled.{blank, opening, closing, comma_mark, given-name, reads-type}

@@ -1,5 +1,5 @@
 -- A text that is read piece by piece, with a line end behind it, is lines of tokens and no directives.
-use Rattle.std.proofs.Common.{◌≡◌, ℕ, Bool, true, false, not, ◌||◌, ◌&&◌, cond, List, [], ◌∷◌, ◌++◌, map, drop, Option, Result, Ok, Err, refl, sym, ap, ◌∙◌, append_assoc, append-nil}
+use Rattle.std.proofs.Common.{◌≡◌, ℕ, Bool, true, false, not, ◌||◌, ◌&&◌, cond, List, [], ◌∷◌, ◌++◌, map, drop, Option, Ok, refl, sym, ap, ◌∙◌, append_assoc}
 use Rattle.std.specs.Prelude.{codes}
 use Rattle.std.specs.List.{list_all, AllByRecursion}
 use Rattle.c_text.specs.declared.token.TokenKind.{TokenKind}
@@ -9,7 +9,7 @@ use Rattle.c_text.specs.Tokens.{kinds, onto}
 use Rattle.c_text.specs.SeenToken.{Seen, Bare}
 use Rattle.c_text.specs.StandardHeader.{is_mark}
 use Rattle.c_text.specs.BareTokens.{bare_token, bare_gathered}
-use Rattle.c_text.specs.Directive.{begins_fresh, before_lines, lines, Line, text, directive, line_of, lines_of}
+use Rattle.c_text.specs.Directive.{begins_fresh, before_lines, lines, text, directive, line_of}
 use Rattle.c_text.specs.BarePreprocessing.{seen_kinds}
 use Rattle.c_text.proofs.Boundary.{pass-append}
 use Rattle.c_text.proofs.Joined.{read_behind, gathered-line_end}

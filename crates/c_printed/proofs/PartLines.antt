@@ -1,20 +1,19 @@
 -- Each part of a unit is lines of C.
-use Rattle.std.proofs.Common.{◌≡◌, ◌||◌, ◌&&◌, ℕ, Bool, true, false, cond, not, List, [], ◌∷◌, ◌++◌, map, bytes_eq, Option, Some, None, is_some, Result, Ok, Err, refl, sym, ap, subst, ◌∙◌, append_assoc, append-nil, arith, ◌<◌, length}
+use Rattle.std.proofs.Common.{◌≡◌, ◌||◌, ℕ, Bool, true, false, cond, List, [], ◌∷◌, ◌++◌, map, bytes_eq, Option, Some, None, is_some, Ok, refl, sym, ap, subst, ◌∙◌, append_assoc, append-nil, arith}
 use Rattle.std.specs.Prelude.{codes}
-use Rattle.std.specs.List.{list_all, list_any, flat_map, AllByRecursion}
+use Rattle.std.specs.List.{list_all, list_any, AllByRecursion}
 use Rattle.std.proofs.lemmas.Slice.Eq.{bytes_eq-Decides}
 use Rattle.c_text.specs.declared.token.TokenKind.{TokenKind}
 use Rattle.c_text.specs.declared.token.TokenKind.TheVariants.{Word, Mark}
-use Rattle.c_text.specs.declared.refusal.CKind.{CKind}
 use Rattle.c_text.specs.declared.refusal.CKind.TheVariants.{BadDirective, MacroBody}
-use Rattle.c_text.specs.Characters.{Pass, IsName}
+use Rattle.c_text.specs.Characters.{IsName}
 use Rattle.c_text.specs.Splice.{is_plain}
-use Rattle.c_text.specs.Piece.{Lexeme, token, line_end, space, bad, in_string}
+use Rattle.c_text.specs.Piece.{Lexeme, token, line_end, space, bad}
 use Rattle.c_text.specs.Tokens.{kinds, onto}
-use Rattle.c_text.specs.SeenToken.{Seen, Bare}
-use Rattle.c_text.specs.BareTokens.{bare_token, bare_gathered}
-use Rattle.c_text.specs.StandardHeader.{Header, stdbool_h, stddef_h, stdint_h, string_h, is_mark}
-use Rattle.c_text.specs.Directive.{begins_fresh, lines, Line, text, standard, quoted, conditional, endif, refused, word_of, has_parameters, has_word, line_of, define as define_line}
+use Rattle.c_text.specs.SeenToken.{Bare}
+use Rattle.c_text.specs.BareTokens.{bare_gathered}
+use Rattle.c_text.specs.StandardHeader.{stdbool_h, stddef_h, stdint_h, string_h, is_mark}
+use Rattle.c_text.specs.Directive.{lines, Line, text, standard, quoted, conditional, endif, refused, word_of, has_parameters, has_word, line_of, define as define_line}
 use Rattle.c_text.specs.Directive.{directive_word}
 use Rattle.c_text.specs.BarePreprocessing.{seen_kinds}
 use Rattle.c_tree.specs.BareExpression.{Tree, constant, unary, binary, bracket, name, null, member, element, call, cast}
@@ -25,12 +24,11 @@ use Rattle.c_text.proofs.HeaderLines.{first, behind, apart, blank-line, comment-
 use Rattle.c_text.proofs.TextLines.{AreLines, no-lines, more-lines}
 use Rattle.c_printed.specs.Spelling.{Voice, sign_text, operator_text, written, left}
 use Rattle.c_printed.specs.PrintedExpression.{printed, tokens_of}
-use Rattle.c_printed.specs.Printable.{Fits}
-use Rattle.c_printed.specs.PrintedUnit.{Part, comment, blank, include, include_beside, define, if_not_defined, end_if, structure, routine, part_text, unit_text, define_text}
-use Rattle.c_printed.specs.PrintedItem.{struct_text, function_text, struct_tokens, head_tokens, item_tokens, field_of, body_tokens as function_body_tokens}
+use Rattle.c_printed.specs.PrintedUnit.{Part, comment, blank, include, include_beside, define, if_not_defined, end_if, structure, routine, part_text, unit_text}
+use Rattle.c_printed.specs.PrintedItem.{struct_text, function_text, struct_tokens, head_tokens, field_of, body_tokens as function_body_tokens}
 use Rattle.c_printed.specs.State.{State, header_named, listed, macro_body, behind_part}
 use Rattle.c_printed.specs.PrintableUnit.{NoWords, IsBody, IsKnown, IsBeside, Right, AllRight}
-use Rattle.c_printed.proofs.Pieces.{Reads, stops, fine, tokens_in, looser}
+use Rattle.c_printed.proofs.Pieces.{Reads, fine, looser}
 use Rattle.c_printed.proofs.ExpressionLaw.{reads-tree}
 use Rattle.c_printed.proofs.ItemLaw.{shown-inside, reads-struct, reads-function}
 use Rattle.c_printed.proofs.ItemLines.{collected, clean-gathered, collected-kinds, and-both, and-false, flat, text-lines, text-kinds}

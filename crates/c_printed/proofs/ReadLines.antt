@@ -1,17 +1,16 @@
 -- Which lines of a unit are read: all but the conditionals, where each of these asks for a macro that is not defined.
-use Rattle.std.proofs.Common.{◌≡◌, ℕ, zero, suc, ◌+◌, Bool, true, false, cond, not, List, [], ◌∷◌, ◌++◌, map, replicate, Option, Some, None, refl, sym, ap, subst, ◌∙◌, append_assoc, append-nil, arith}
+use Rattle.std.proofs.Common.{◌≡◌, ℕ, zero, suc, ◌+◌, true, false, cond, not, List, [], ◌∷◌, ◌++◌, map, replicate, Option, Some, None, refl, sym, ap, subst, ◌∙◌, append-nil, arith}
 use Rattle.c_text.specs.SeenToken.{Bare}
 use Rattle.c_text.specs.StandardHeader.{Header}
-use Rattle.c_text.specs.Directive.{Line, text, standard, quoted, conditional, endif, define as define_line}
+use Rattle.c_text.specs.Directive.{text, standard, quoted, conditional, endif, define as define_line}
 use Rattle.c_text.specs.MacroDefinition.{is_macro}
-use Rattle.cg_out.specs.Words.{same_bool}
 use Rattle.c_text.specs.Conditional.{is_ended, if_ended, balanced, is_read, read_lines}
 use Rattle.c_text.proofs.Group.{IsGroup, group-none, group-line, group-append, plain-text, plain-standard, plain-define}
 use Rattle.c_printed.specs.PrintedUnit.{Part, comment, blank, include, include_beside, define, if_not_defined, end_if, structure, routine}
 use Rattle.c_printed.specs.PrintedItem.{struct_text, function_text}
 use Rattle.c_printed.specs.State.{header_named, listed}
 use Rattle.c_printed.specs.PrintableUnit.{Balanced}
-use Rattle.c_printed.proofs.PartLines.{BareLine, groups_of, body_bares, part_lines, unit_lines}
+use Rattle.c_printed.proofs.PartLines.{BareLine, groups_of, body_bares, unit_lines}
 
 -- ---- what is left of the lines
 

@@ -1,7 +1,7 @@
 -- Worked values of the texts, by computation.
-use Rattle.std.proofs.Common.{◌≡◌, ℕ, Bool, true, false, List, [], ◌∷◌, ◌++◌, Option, Some, None, refl, arith}
+use Rattle.std.proofs.Common.{◌≡◌, ℕ, Bool, true, false, [], ◌∷◌, ◌++◌, Some, None, refl, arith}
 use Rattle.std.specs.Prelude.{codes}
-use Rattle.std.specs.Fmt.{decimal, digits}
+use Rattle.std.specs.Fmt.{digits}
 use Rattle.std.proofs.lemmas.Fmt.{decimal_digit}
 use Rattle.c_text.specs.declared.token.IntType.TheVariants as int
 use Rattle.c_text.specs.declared.token.Spelled.TheVariants.{Exact, Size, Plain}
@@ -16,7 +16,7 @@ use Rattle.c_tree.specs.BareExpression as e
 use Rattle.c_tree.specs.BareStatement.{Action, assign, discard, empty, block, when, choose, return, break, switch, no_more, then, done, label, statement}
 use Rattle.c_tree.specs.BareStatement as a
 use Rattle.c_tree.specs.BareUnit.{BareHead}
-use Rattle.c_printed.specs.Spelling.{hex_digits, type_text}
+use Rattle.c_printed.specs.Spelling.{hex_digits}
 use Rattle.c_printed.specs.PrintedExpression.{printed}
 use Rattle.c_printed.specs.PrintedStatement.{action_text}
 use Rattle.c_printed.specs.PrintedUnit.{comment, include, include_beside, define, if_not_defined, end_if, structure, routine, part_text}

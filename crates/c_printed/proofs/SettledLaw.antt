@@ -8,7 +8,6 @@ use Rattle.c_tree.specs.declared.item.CType.{CType}
 use Rattle.c_tree.specs.declared.item.CType.TheVariants.{Void, Integer, Pointer}
 use Rattle.c_tree.specs.declared.item.Target.{Target}
 use Rattle.c_tree.specs.declared.item.Target.TheVariants.{Byte, Struct}
-use Rattle.c_text.specs.declared.token.Spelled.TheVariants.{Exact}
 use Rattle.c_text.specs.SeenToken.{Seen, Bare}
 use Rattle.c_tree.specs.Symbol.{keyword_in}
 use Rattle.c_text.specs.Directive.{Line, text, word_of}
@@ -23,9 +22,9 @@ use Rattle.c_text.proofs.Group.{first_by-append}
 use Rattle.c_printed.specs.Spelling.{sign_text, operator_text, assign_text, type_words, words, left_type, left_callee, callee_text, left, written}
 use Rattle.c_printed.specs.PrintedExpression.{comma, tokens_of, all_tokens}
 use Rattle.c_printed.specs.PrintedStatement.{value_tokens, result_tokens, label_tokens, action_tokens, actions_tokens, parts_tokens}
-use Rattle.c_printed.specs.PrintedItem.{const_tokens, target_tokens, named_tokens, fields_tokens, struct_tokens, params_tokens, all_params_tokens, static_tokens, head_tokens, body_tokens, item_tokens}
+use Rattle.c_printed.specs.PrintedItem.{const_tokens, target_tokens, named_tokens, fields_tokens, params_tokens, all_params_tokens, static_tokens, head_tokens, body_tokens, item_tokens}
 use Rattle.c_printed.specs.Expanded.{Meaning, expanded, expanded_all, expanded_option, expanded_action, expanded_actions, expanded_parts, expanded_body, expanded_item}
-use Rattle.c_printed.specs.Settled.{Becomes, settle, settled, chosen, word_behind, Stands, TypeStands, KeywordsStand, Settles, SettleAll, SettlesOption, SettlesAction, SettleActions, SettleParts, TargetStands, KindStands, NamedStands, SettlesBody, SettlesHead, SettlesItem}
+use Rattle.c_printed.specs.Settled.{Becomes, settle, settled, chosen, word_behind, Stands, KeywordsStand, Settles, SettleAll, SettlesOption, SettlesAction, SettleActions, SettleParts, TargetStands, KindStands, NamedStands, SettlesBody, SettlesHead, SettlesItem}
 use Rattle.c_printed.proofs.ItemLines.{flat}
 use Rattle.c_tree.specs.BareStatement as a
 
@@ -160,6 +159,7 @@ module _ (env : Becomes) (m : Meaning) where
 
     mutual
       unfolding keyword_in
+
       pub action-settled : (x : Action) → SettlesAction env m x → Leaves env (action_tokens written x) (action_tokens left (expanded_action m x))
       action-settled (declare s x v) h =
           row (words (type_words s)) _ (left_type s) _ (record { is = h.0 }) (word x (Word x) _ _ h.1 (row (value_tokens written v) (Mark (codes ";") ∷ []) _ _ (value-settled v h.2) (record { is = refl })))

@@ -1,6 +1,6 @@
 -- Operators, constants and types as their texts are read.
-use Rattle.std.proofs.Common.{◌≡◌, ℕ, zero, suc, ◌+◌, ◌-◌, ◌*◌, ◌^◌, ◌<◌, ◌≤◌, Bool, true, false, cond, List, [], ◌∷◌, ◌++◌, length, replicate, Option, Some, refl, sym, ap, subst, ◌∙◌, append_assoc, arith}
-use Rattle.std.specs.Prelude.{codes, nat_lt}
+use Rattle.std.proofs.Common.{◌≡◌, ℕ, zero, suc, ◌-◌, ◌^◌, ◌<◌, ◌≤◌, Bool, true, false, cond, List, [], ◌∷◌, ◌++◌, length, replicate, Option, Some, refl, sym, ap, subst, ◌∙◌, append_assoc, arith}
+use Rattle.std.specs.Prelude.{codes}
 use Rattle.std.specs.List.{list_all}
 use Rattle.std.specs.Fmt.{decimal, digits}
 use Rattle.std.specs.Char.{digit_value}
@@ -21,7 +21,7 @@ use Rattle.c_tree.specs.declared.expression.BinaryOp.{BinaryOp}
 use Rattle.c_tree.specs.declared.statement.AssignOp.{AssignOp}
 use Rattle.c_text.specs.Characters.{is_letter, goes_on, first_passes, Pass, IsName}
 use Rattle.c_text.specs.Punctuator.{mark_at}
-use Rattle.c_text.specs.Piece.{Lexeme, token, line_end, space}
+use Rattle.c_text.specs.Piece.{Lexeme, token, space}
 use Rattle.c_text.specs.Splice.{is_plain}
 use Rattle.c_text.specs.Tokens.{kinds}
 use Rattle.c_text.specs.IntegerConstant.{Suffix, suffix_of, in_base, is_x, constant_from, constant_in, constant_of}
@@ -29,7 +29,7 @@ use Rattle.c_text.proofs.Boundary.{pass-append, pass-all, goes_on_with_number, k
 use Rattle.c_text.proofs.PrintedLines.{bytes-plain}
 use Rattle.c_text.proofs.Constants.{IsSuffix, IsSuffixOfZero, constant, digits-go_on, constant_in-digits, kinds-decimal, kinds-hexadecimal, no-suffix, u-suffix, l-suffix, ll-suffix, ul-suffix, ull-suffix}
 use Rattle.c_text.proofs.Marks.{extends, kinds-part, kinds-whole}
-use Rattle.c_printed.specs.Spelling.{sign_text, operator_text, assign_text, between, u_text, l_text, suffix_text, hex_width, padded, hex_digits, value_text, constant_text, plain_words, sign_letter, width_text, type_words, spaced, type_text, words, callee_text}
+use Rattle.c_printed.specs.Spelling.{sign_text, operator_text, assign_text, between, suffix_text, hex_width, hex_digits, value_text, constant_text, plain_words, sign_letter, width_text, type_words, spaced, type_text, words, callee_text}
 use Rattle.c_printed.specs.Printable.{IsBase, eight, ten, sixteen, IsWidth, w8, w16, w32, w64, IsConstant, IsType, IsFreeCallee}
 use Rattle.c_printed.proofs.Pieces.{Reads, joined, then, given, named, stops, fine, all-append, not-stops}
 use Rattle.c_text.specs.declared.token.IntType.TheVariants as int

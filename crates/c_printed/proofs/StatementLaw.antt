@@ -1,5 +1,5 @@
 -- The text of a statement has its tokens, whatever follows.
-use Rattle.std.proofs.Common.{◌≡◌, ℕ, zero, suc, ◌+◌, Bool, true, false, List, [], ◌∷◌, ◌++◌, Option, Some, None, refl, append_assoc}
+use Rattle.std.proofs.Common.{◌≡◌, ℕ, ◌+◌, Bool, true, false, List, [], ◌∷◌, ◌++◌, Option, Some, None, refl, append_assoc}
 use Rattle.std.specs.Prelude.{codes}
 use Rattle.c_text.specs.declared.token.TokenKind.{TokenKind}
 use Rattle.c_text.specs.declared.token.TokenKind.TheVariants.{Word, Mark}
@@ -10,10 +10,10 @@ use Rattle.c_tree.specs.BareExpression.{Tree, constant, unary, bracket}
 use Rattle.c_tree.specs.BareStatement.{Action, Actions, Parts, declare, assign, call, discard, empty, block, when, choose, return, break, switch, no_more, then, done, label, statement}
 use Rattle.c_printed.specs.Spelling.{assign_text, between, type_text, type_words, words, callee_text, written}
 use Rattle.c_printed.specs.PrintedExpression.{printed, separated, tokens_of, all_tokens}
-use Rattle.c_printed.specs.PrintedStatement.{blanks, value_text, result_text, label_text, action_text, inner_text, actions_text, parts_text, value_tokens, result_tokens, label_tokens, action_tokens, actions_tokens, parts_tokens}
-use Rattle.c_printed.specs.Printable.{Fits, FitsOption, IsCase, FitsAction, FitsBlock, FitActions, FitParts}
+use Rattle.c_printed.specs.PrintedStatement.{blanks, value_text, result_text, action_text, actions_text, parts_text, value_tokens, result_tokens, action_tokens, actions_tokens, parts_tokens}
+use Rattle.c_printed.specs.Printable.{Fits, FitsOption, IsCase, FitsAction, FitActions, FitParts}
 use Rattle.c_printed.proofs.Pieces.{Reads, joined, nothing, named, free-any, given, indent}
-use Rattle.c_printed.proofs.Spelled.{blank, opening, reads-assign, reads-type, reads-constant, signed, callee-name}
+use Rattle.c_printed.proofs.Spelled.{blank, opening, reads-assign, reads-type, callee-name}
 use Rattle.c_printed.proofs.ExpressionLaw.{reads-tree, reads-all}
 use Rattle.c_tree.specs.declared.expression.UnaryOp.TheVariants as sign
 use Rattle.c_printed.proofs.Pieces as p

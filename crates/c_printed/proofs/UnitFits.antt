@@ -1,17 +1,17 @@
 -- The items that a printable unit leaves are printable.
-use Rattle.std.proofs.Common.{◌≡◌, ℕ, zero, suc, ◌+◌, ◌^◌, ◌<◌, Bool, true, false, cond, List, [], ◌∷◌, ◌++◌, map, bytes_eq, Option, Some, None, refl, sym, ap, subst, ◌∙◌, arith}
+use Rattle.std.proofs.Common.{◌≡◌, ℕ, ◌^◌, ◌<◌, Bool, true, false, cond, List, [], ◌∷◌, ◌++◌, map, bytes_eq, Option, Some, None, subst, arith}
 use Rattle.std.specs.List.{AllByRecursion}
 use Rattle.cg_out.specs.Words.{look_up, or_else}
 use Rattle.c_text.specs.declared.token.TokenKind.{TokenKind}
 use Rattle.c_text.specs.declared.token.TokenKind.TheVariants.{Constant as Number}
 use Rattle.c_text.specs.StandardHeader.{Header, stdbool_h, stddef_h, stdint_h, string_h, names_of, kind_in}
-use Rattle.c_tree.specs.BareExpression.{Tree, constant}
-use Rattle.c_tree.specs.BareUnit.{BareItem, struct, function}
+use Rattle.c_tree.specs.BareExpression.{Tree}
+use Rattle.c_tree.specs.BareUnit.{BareItem}
 use Rattle.c_printed.specs.PrintedItem.{Field, field_of}
 use Rattle.c_printed.specs.PrintedUnit.{Part, comment, blank, include, include_beside, define, if_not_defined, end_if, structure, routine}
 use Rattle.c_printed.specs.Printable.{IsConstant, ten, Fits}
 use Rattle.c_printed.specs.PrintableItem.{IsField, IsSome, IsMember, IsSomeMember, FitsItem}
-use Rattle.c_printed.specs.State.{Macro, State, nothing_known, kind_by_headers, constant_by, tree_by, meaning, unless_known, new_macros, with_macros, behind_part, behind_all, header_state}
+use Rattle.c_printed.specs.State.{Macro, State, nothing_known, kind_by_headers, tree_by, meaning, unless_known, new_macros, behind_part, behind_all, header_state}
 use Rattle.c_printed.specs.PrintableUnit.{IsBody, Right, AllRight, no_header, IsHeaderAt, IsSource}
 use Rattle.c_printed.specs.Reread.{items_at, items_of, header_items, source_items}
 use Rattle.c_printed.proofs.ExpandedFits.{AreFitting, body-fits}

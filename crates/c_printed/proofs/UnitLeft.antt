@@ -1,15 +1,13 @@
 -- What preprocessing leaves of the text of a unit, as a header and as a source that includes a header.
-use Rattle.std.proofs.Common.{◌≡◌, ℕ, List, [], ◌∷◌, ◌++◌, map, Option, Some, None, Result, Ok, Err, refl, sym, ap, subst, ◌∙◌, append-nil}
-use Rattle.c_text.specs.declared.token.TokenKind.{TokenKind}
-use Rattle.c_text.specs.SeenToken.{Bare}
+use Rattle.std.proofs.Common.{◌≡◌, ℕ, List, [], ◌++◌, map, Some, None, Ok, refl, sym, ap, subst, ◌∙◌}
 use Rattle.c_text.specs.Conditional.{balanced, read_lines}
-use Rattle.c_text.specs.Preprocessing.{each_behind, faults_at, macros_at, tokens_at, unless_fault, left_of, preprocessed_texts}
-use Rattle.c_text.specs.BarePreprocessing.{BareLeft, bare_preprocessed, bare_left, seen_kinds, named_kinds}
+use Rattle.c_text.specs.Preprocessing.{each_behind, macros_at, tokens_at, unless_fault, left_of, preprocessed_texts}
+use Rattle.c_text.specs.BarePreprocessing.{bare_preprocessed, bare_left}
 use Rattle.c_tree.specs.BareUnit.{BareItem}
 use Rattle.c_text.proofs.TextLines.{texts-lines}
 use Rattle.c_printed.specs.PrintedUnit.{Part, unit_text}
-use Rattle.c_printed.specs.State.{State, nothing_known, behind_all, header_state, Macro}
-use Rattle.c_printed.specs.Reread.{items_of, header_items, source_items, macros_of, header_macros, source_macros, items_tokens, macro_tokens}
+use Rattle.c_printed.specs.State.{State, nothing_known, header_state, Macro}
+use Rattle.c_printed.specs.Reread.{header_items, source_items, header_macros, source_macros, items_tokens, macro_tokens}
 use Rattle.c_printed.specs.PrintableUnit.{no_header, IsHeaderAt, IsSource}
 use Rattle.c_printed.proofs.PartLines.{BareLine, unit_lines, unit-lines}
 use Rattle.c_printed.proofs.ReadLines.{kept, balanced-is, lines-read}
@@ -54,7 +52,7 @@ left-is ls is ms g =
 -- the two texts have no fault of tokens and of preprocessing; what is left are the tokens of the items, and the macros are those that the parts define
 pub source-left : (name : List ℕ) (header source : List Part) (s : State) → IsHeaderAt s header → IsSource name header source
     → bare_preprocessed (preprocessed_texts (unit_text header) name (unit_text source))
-      ≡ Ok (record { tokens = items_tokens (source_items header source); macros = map macro_tokens (source_macros header source) })
+    ≡ Ok (record { tokens = items_tokens (source_items header source); macros = map macro_tokens (source_macros header source) })
 source-left name header source s h k =
     let given : State → Type 0 = λ t. IsHeaderAt t header in
     let read = header_read header in
@@ -64,4 +62,4 @@ source-left name header source s h k =
     ∙ ap (λ ls. bare_left (left_of (read_lines read [] [] ls))) (balanced-is 0 source k.balanced)
     ∙ ap (λ ls. bare_left (left_of ls)) (lines-read read 0 [] source k.balanced unasked)
     ∙ left-is (kept read [] source) (source_items header source) (source_macros header source)
-      (parts-give (Some name) given read (header_state header) (header_items header) (header_macros header) (header-beside header) [] nothing_known source nothing-agrees k.right)
+    (parts-give (Some name) given read (header_state header) (header_items header) (header_macros header) (header-beside header) [] nothing_known source nothing-agrees k.right)

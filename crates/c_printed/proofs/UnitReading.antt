@@ -1,6 +1,5 @@
 -- What preprocessing leaves of the parts of a unit: the tokens of its items with names replaced, and its macros.
-use Rattle.std.proofs.Common.{◌≡◌, ℕ, zero, suc, Bool, true, false, cond, not, List, [], ◌∷◌, ◌++◌, map, bytes_eq, Option, Some, None, option_map, is_some, ◌&&◌, ◌==◌, refl, sym, ap, subst, ◌∙◌, append_assoc, append-nil, arith}
-use Rattle.std.specs.Prelude.{codes}
+use Rattle.std.proofs.Common.{◌≡◌, ℕ, Bool, true, false, cond, List, [], ◌∷◌, ◌++◌, map, bytes_eq, Option, Some, None, option_map, is_some, ◌&&◌, ◌==◌, refl, sym, ap, subst, ◌∙◌, append_assoc, append-nil, arith}
 use Rattle.std.specs.List.{AllByRecursion}
 use Rattle.std.proofs.lemmas.List.{map-append}
 use Rattle.std.proofs.lemmas.Slice.Eq.{bytes_eq-Decides}
@@ -12,13 +11,13 @@ use Rattle.c_text.specs.declared.refusal.CKind.TheVariants.{Redefined}
 use Rattle.c_tree.specs.BareExpression.{Tree}
 use Rattle.std.proofs.lemmas.Bool.Decides.{nat_tests}
 use Rattle.c_tree.specs.declared.symbol.Keyword.{Keyword}
-use Rattle.c_text.specs.SeenToken.{Seen, Bare}
+use Rattle.c_text.specs.SeenToken.{Bare}
 use Rattle.cg_out.specs.Words.{look_up, or_else, same_bool}
 use Rattle.c_tree.specs.Symbol.{keyword_in}
 use Rattle.c_text.specs.StandardHeader.{Header, stdbool_h, stddef_h, stdint_h, string_h, names_of, kind_in}
-use Rattle.c_text.specs.Directive.{Line, text, standard, conditional, endif, define as define_line}
-use Rattle.c_text.specs.MacroDefinition.{first_by, body_by, body_of, is_macro, order_of, same_spelled, same_kind, same_body}
-use Rattle.c_text.specs.Preprocessing.{each_behind, kind_by, unless_same, faults_at, macros_at, tokens_at, NamedBody}
+use Rattle.c_text.specs.Directive.{text, standard, define as define_line}
+use Rattle.c_text.specs.MacroDefinition.{first_by, body_by, body_of, order_of, same_spelled, same_kind, same_body}
+use Rattle.c_text.specs.Preprocessing.{each_behind, kind_by, unless_same, faults_at, macros_at, tokens_at}
 use Rattle.c_text.specs.BarePreprocessing.{seen_kinds, named_kinds}
 use Rattle.c_tree.specs.BareUnit.{BareItem, struct, function}
 use Rattle.c_text.proofs.Group.{first_by-append, each_behind-append}
@@ -27,12 +26,12 @@ use Rattle.c_printed.specs.PrintedUnit.{Part, comment, blank, include, include_b
 use Rattle.c_printed.specs.PrintedItem.{struct_text, function_text, struct_tokens, head_tokens, item_tokens, field_of, body_tokens as function_body_tokens}
 use Rattle.c_printed.specs.Expanded.{expanded_item}
 use Rattle.c_printed.specs.Settled.{settled, chosen, word_behind, KeywordsStand, SettlesItem}
-use Rattle.c_printed.specs.State.{State, kind_by_headers, macro_body, word_by, becomes, meaning, header_named, listed, unless_known, new_macros, with_macros, with_headers, behind_part, behind_all, Macro}
+use Rattle.c_printed.specs.State.{State, kind_by_headers, macro_body, word_by, becomes, meaning, header_named, listed, unless_known, with_macros, with_headers, behind_part, behind_all, Macro}
 use Rattle.c_printed.specs.Reread.{items_at, items_of, macros_of, macros_at as part_macros, items_tokens, macro_tokens}
 use Rattle.c_printed.specs.PrintableUnit.{IsBody, IsSame, Right, AllRight}
 use Rattle.c_printed.proofs.ItemLines.{flat}
 use Rattle.c_printed.proofs.ItemLaw.{reads-struct, reads-function}
-use Rattle.c_printed.proofs.SettledLaw.{Leaves, item-settled, texts-settled}
+use Rattle.c_printed.proofs.SettledLaw.{item-settled, texts-settled}
 use Rattle.c_printed.proofs.PartLines.{BareLine, groups_of, body_bares, body-kinds, item-kinds}
 use Rattle.c_printed.proofs.ReadLines.{kept_part, kept, Unasked, AllUnasked}
 

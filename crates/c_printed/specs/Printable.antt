@@ -1,8 +1,8 @@
 -- Which expressions and statements are printed so that they read back.
-use Rattle.std.specs.Prelude.{◌≡◌, ℕ, zero, suc, ◌+◌, ◌^◌, ◌<◌, ◌≤◌, Bool, true, false, List, [], ◌∷◌, Option, Some, None}
+use Rattle.std.specs.Prelude.{◌≡◌, ℕ, suc, ◌+◌, ◌^◌, ◌<◌, ◌≤◌, Bool, true, false, List, Option, Some, None}
 use Rattle.c_text.specs.declared.token.Constant.{Constant}
 use Rattle.c_text.specs.declared.token.Spelled.{Spelled}
-use Rattle.c_text.specs.declared.token.Spelled.TheVariants.{Exact, Size, Plain}
+use Rattle.c_text.specs.declared.token.Spelled.TheVariants.{Exact}
 use Rattle.c_tree.specs.declared.expression.Callee.{Callee}
 use Rattle.c_tree.specs.declared.expression.Callee.TheVariants as callee
 use Rattle.c_tree.specs.declared.expression.UnaryOp.{UnaryOp}

@@ -7,7 +7,7 @@ use Rattle.c_text.specs.Splice.{is_plain}
 use Rattle.c_text.specs.Piece.{in_string}
 use Rattle.c_text.specs.StandardHeader.{Header}
 use Rattle.c_tree.specs.BareExpression.{Tree, constant, unary, binary, bracket}
-use Rattle.c_tree.specs.BareUnit.{BareItem, struct, function}
+use Rattle.c_tree.specs.BareUnit.{struct, function}
 use Rattle.c_printed.specs.PrintedItem.{field_of}
 use Rattle.c_printed.specs.PrintedUnit.{Part, comment, blank, include, include_beside, define, if_not_defined, end_if, structure, routine}
 use Rattle.c_printed.specs.Printable.{IsFree, Fits}

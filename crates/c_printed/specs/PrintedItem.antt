@@ -121,4 +121,3 @@ field_of f = f.named
 abbrev pub item_tokens : Voice → BareItem → List TokenKind
 item_tokens v (struct tag fs) = struct_tokens v tag fs
 item_tokens v (function h body) = head_tokens v h ++ body_tokens v body
-

@@ -1,5 +1,5 @@
 -- The text of a statement, and its tokens.
-use Rattle.std.specs.Prelude.{ℕ, ◌+◌, Bool, true, false, List, [], ◌∷◌, ◌++◌, codes, replicate, Option, Some, None}
+use Rattle.std.specs.Prelude.{ℕ, ◌+◌, true, List, [], ◌∷◌, ◌++◌, codes, replicate, Option, Some, None}
 use Rattle.c_text.specs.declared.token.TokenKind.{TokenKind}
 use Rattle.c_text.specs.declared.token.TokenKind.TheVariants.{Word, Mark}
 use Rattle.c_tree.specs.BareExpression.{Tree}

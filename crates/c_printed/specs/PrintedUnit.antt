@@ -39,4 +39,3 @@ part_text (routine h body) = function_text h body ++ 10 ∷ []
 -- the bytes of a unit
 abbrev pub unit_text : List Part → List ℕ
 unit_text parts = flat_map part_text parts
-

@@ -1,5 +1,5 @@
 -- What preprocessing leaves of words, and in which trees it leaves what the tree expanded says.
-use Rattle.std.specs.Prelude.{◌≡◌, ℕ, Bool, true, false, List, [], ◌∷◌, ◌++◌, codes, Option, Some, None, is_some}
+use Rattle.std.specs.Prelude.{◌≡◌, ℕ, true, false, List, [], ◌∷◌, ◌++◌, codes, Option, Some, None, is_some}
 use Rattle.std.specs.List.{AllByRecursion}
 use Rattle.c_text.specs.declared.token.Spelled.{Spelled}
 use Rattle.c_text.specs.declared.token.Spelled.TheVariants.{Exact}

@@ -1,12 +1,12 @@
 -- How operators, constants and types are spelled.
-use Rattle.std.specs.Prelude.{ℕ, zero, suc, ◌-◌, ◌^◌, Bool, true, false, nat_lt, if◌then◌else◌, List, [], ◌∷◌, ◌++◌, length, replicate, map, codes, bytes_eq}
+use Rattle.std.specs.Prelude.{ℕ, zero, suc, ◌-◌, ◌^◌, Bool, true, false, nat_lt, if◌then◌else◌, List, [], ◌∷◌, ◌++◌, length, replicate, map, codes}
 use Rattle.std.specs.Fmt.{decimal, digits}
 use Rattle.c_text.specs.declared.token.Constant.{Constant}
 use Rattle.c_text.specs.declared.token.IntType.{IntType}
 use Rattle.c_text.specs.declared.token.Spelled.{Spelled}
 use Rattle.c_text.specs.declared.token.Spelled.TheVariants.{Exact, Size, Plain}
 use Rattle.c_text.specs.declared.token.TokenKind.{TokenKind}
-use Rattle.c_text.specs.declared.token.TokenKind.TheVariants.{Word, Mark, TypeName, Null, Memset}
+use Rattle.c_text.specs.declared.token.TokenKind.TheVariants.{Word, TypeName, Null, Memset}
 use Rattle.c_tree.specs.declared.expression.Callee.{Callee}
 use Rattle.c_tree.specs.declared.expression.Callee.TheVariants as callee
 use Rattle.c_tree.specs.declared.expression.UnaryOp.{UnaryOp}

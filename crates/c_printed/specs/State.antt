@@ -1,5 +1,5 @@
 -- What is known of names while the parts of a unit are read: macros and standard headers.
-use Rattle.std.specs.Prelude.{ℕ, Bool, true, false, if◌then◌else◌, List, [], ◌∷◌, ◌++◌, codes, bytes_eq, Option, Some, None}
+use Rattle.std.specs.Prelude.{ℕ, if◌then◌else◌, List, [], ◌∷◌, ◌++◌, codes, bytes_eq, Option, Some, None}
 use Rattle.cg_out.specs.Words.{look_up, or_else}
 use Rattle.c_text.specs.declared.token.TokenKind.{TokenKind}
 use Rattle.c_text.specs.declared.token.TokenKind.TheVariants.{Word, Constant as Number}

@@ -15,8 +15,7 @@ pub fn header_reads_back()
     ensures { (name : List ℕ) (header : List Part) → IsBeside (Some name) name → IsHeaderAt nothing_known header
         → AllByRecursion ItemWithin (header_items header nothing_known)
         → ReadAsUnit name (unit_text header) (part_text (include_beside name)) (header_items header nothing_known) (map macro_tokens (header_macros header nothing_known)) }
-{
-}
+{}
 
 /// A printed source beside a printed header that it may include has no fault; its unit is the items
 /// of both, with names replaced by what they stand for, and its macros are exactly those of both.
@@ -24,5 +23,4 @@ pub fn pair_reads_back()
     ensures { (name : List ℕ) (header source : List Part) (known : State) → IsHeaderAt known header → IsSource name header source
         → AllByRecursion ItemWithin (source_items header source)
         → ReadAsUnit name (unit_text header) (unit_text source) (source_items header source) (map macro_tokens (source_macros header source)) }
-{
-}
+{}

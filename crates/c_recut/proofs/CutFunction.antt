@@ -219,8 +219,15 @@ cut-typed Void h body ts same i is fits w e =
     let r = cut-rest h body x.rest is fits w x.rest_kinds in
     let key_void = ap keyword_of x.first_kind ∙ keys.void_is in
     record {
-      name_place = r.name_place; params = r.params; list = r.list; close = r.close; params_are = r.params_are; body_is = r.body_is;
-      first = x.first; others = x.rest; is = x.is;
+      name_place = r.name_place;
+      params = r.params;
+      list = r.list;
+      close = r.close;
+      params_are = r.params_are;
+      body_is = r.body_is;
+      first = x.first;
+      others = x.rest;
+      is = x.is;
       key_is = ap free_key key_void;
       made = λ place.
           ap (function_of place h.fixed) x.is ∙ ap (λ w. returns_by (is_void_key w) place h.fixed x.first x.rest) key_void ∙ r.made place Void
@@ -240,8 +247,15 @@ cut-typed (Integer s) h body ts same i is fits w e =
     let x = head-of f.kind (f.rest ++ rest_tokens h body) ts (e1 ∙ ap (λ ks. ks ++ rest_tokens h body) f.is) in
     let some : 0 < length t.rest = more t.rest behind t.rest_kinds in
     record {
-      name_place = r.name_place; params = r.params; list = r.list; close = r.close; params_are = r.params_are; body_is = r.body_is;
-      first = x.first; others = x.rest; is = x.is;
+      name_place = r.name_place;
+      params = r.params;
+      list = r.list;
+      close = r.close;
+      params_are = r.params_are;
+      body_is = r.body_is;
+      first = x.first;
+      others = x.rest;
+      is = x.is;
       key_is = ap (λ k. free_key (keyword_of k)) x.first_kind ∙ f.free;
       made = λ place.
           ap (function_of place h.fixed) x.is ∙ ap (λ b. returns_by b place h.fixed x.first x.rest) (ap is_void x.first_kind ∙ f.no_void)
@@ -283,10 +297,10 @@ cut-fixed true h body ts same is fits w e =
     let key_static = ap keyword_of s.first_kind ∙ keys.static_is in
     let got = function (record { fixed = h.fixed; returns = h.returns; name = h.name; place = x.name_place }) x.params x.list x.close in
     let ends : (at : ℕ) (ys : List Token) → item_end at 0 (ts ++ ys) ≡ Some (at + length ts - 1) = λ at ys.
-        let count : at + 1 + length s.rest - 1 ≡ at + length (s.first ∷ s.rest) - 1 = omega arith in
-        ap (λ us. item_end at 0 (us ++ ys)) s.is
-        ∙ calm-end at (s.first ∷ []) (s.rest ++ ys) (Word (codes "static") ∷ []) (ap (λ k. k ∷ []) s.first_kind) (word-calm _, tt)
-        ∙ x.ends (at + 1) ys ∙ ap Some count ∙ ap (λ us. Some (at + length us - 1)) (sym s.is) in
+    let count : at + 1 + length s.rest - 1 ≡ at + length (s.first ∷ s.rest) - 1 = omega arith in
+    ap (λ us. item_end at 0 (us ++ ys)) s.is
+    ∙ calm-end at (s.first ∷ []) (s.rest ++ ys) (Word (codes "static") ∷ []) (ap (λ k. k ∷ []) s.first_kind) (word-calm _, tt)
+    ∙ x.ends (at + 1) ys ∙ ap Some count ∙ ap (λ us. Some (at + length us - 1)) (sym s.is) in
     let made : function_item s.first.place (s.first ∷ s.rest) ≡ Ok got =
     ap (λ w. maybe_static w s.first s.rest) key_static ∙ ap (λ b. function_of s.first.place b s.rest) (sym same) ∙ x.made s.first.place in
     record {

@@ -430,7 +430,7 @@ made-assign may room t o v ts q h w g z e =
     let at : first_outside is_assignment 0 0 ts ≡ Some (length s.left) =
     ap (first_outside is_assignment 0 0) whole
     ∙ first_outside-at is_assignment s.left m.first m.rest x.tree.part.closed (none-outside is_assignment 0 0 s.left (tokens_of left t) s.left_kinds (no-assignment (tokens_of left t) (tree-quiet t)))
-      (ap (λ (z : Option AssignOp). is_some z) op_is) in
+    (ap (λ (z : Option AssignOp). is_some z) op_is) in
     let found : assignment_form ts ≡ form =
     ap (λ i. assign_by i ts) at
     ∙ ap (λ us. assigns_at (take (length s.left) us) (drop (length s.left) us)) whole

@@ -1,5 +1,5 @@
 -- The tokens of a statement are cut into the statement.
-use Rattle.std.proofs.Common.{rules, ◌≡◌, ℕ, zero, suc, Bool, true, false, not, List, [], ◌∷◌, ◌++◌, map, Option, Some, None, Ok, refl, sym, ap, subst, ◌∙◌, arith, append_assoc}
+use Rattle.std.proofs.Common.{◌≡◌, ℕ, zero, suc, Bool, true, false, not, List, [], ◌∷◌, ◌++◌, map, Option, Some, None, Ok, refl, sym, ap, subst, ◌∙◌, arith, append_assoc}
 use Rattle.std.specs.Prelude.{codes, ◌&&◌}
 use Rattle.std.specs.List.{AllByRecursion}
 use Rattle.c_text.specs.declared.place.Place.{Place}
@@ -13,8 +13,7 @@ use Rattle.c_tree.specs.declared.expression.Callee.TheVariants as callee
 use Rattle.c_tree.specs.declared.expression.Expr.{Expr}
 use Rattle.c_tree.specs.declared.expression.UnaryOp.{UnaryOp}
 use Rattle.c_tree.specs.declared.statement.Stmt.{Stmt}
-use Rattle.c_tree.specs.declared.statement.StmtKind.{the_lemmas as stmt_lemmas}
-use Rattle.c_tree.specs.declared.statement.SwitchPart.{SwitchPart, fold-SwitchPart}
+use Rattle.c_tree.specs.declared.statement.SwitchPart.{SwitchPart}
 use Rattle.c_tree.specs.declared.statement.SwitchPart.TheVariants.{Label, Statement}
 use Rattle.cg_out.specs.Words.{◌>>=◌}
 use Rattle.c_tree.specs.Symbol.{keyword_in, keyword_of, mark_in, is_semicolon}

@@ -1,8 +1,7 @@
 -- A header and a source that the printing law holds of: its premises are met, and what is left is what one expects.
-use Rattle.std.proofs.Common.{◌≡◌, ◌<◌, ℕ, Bool, true, false, List, [], ◌∷◌, map, Option, Some, None, refl, arith}
+use Rattle.std.proofs.Common.{◌≡◌, ◌<◌, ℕ, Bool, true, false, List, [], ◌∷◌, map, Some, None, refl, arith}
 use Rattle.std.specs.Prelude.{codes, ◌^◌}
-use Rattle.std.specs.List.{list_all, AllByRecursion}
-use Rattle.c_text.specs.declared.token.Constant.{Constant}
+use Rattle.std.specs.List.{list_all}
 use Rattle.c_text.specs.declared.token.IntType.TheVariants as int
 use Rattle.c_text.specs.declared.token.Spelled.{Spelled}
 use Rattle.c_text.specs.declared.token.Spelled.TheVariants.{Exact, Size, Plain}
@@ -11,7 +10,7 @@ use Rattle.c_text.specs.StandardHeader.{kind_in, string_h}
 use Rattle.c_text.specs.Splice.{is_plain}
 use Rattle.c_text.specs.Piece.{in_string}
 use Rattle.c_text.proofs.Boundary.{pass-all}
-use Rattle.c_tree.specs.declared.item.CType.TheVariants.{Void, Integer, Pointer}
+use Rattle.c_tree.specs.declared.item.CType.TheVariants.{Integer, Pointer}
 use Rattle.c_tree.specs.declared.item.Target.TheVariants.{Byte, Struct}
 use Rattle.c_tree.specs.declared.expression.Callee.TheVariants as callee
 use Rattle.c_tree.specs.declared.expression.UnaryOp.TheVariants as sign
@@ -20,14 +19,14 @@ use Rattle.c_tree.specs.declared.statement.AssignOp.TheVariants as set
 use Rattle.c_tree.specs.Symbol.{keyword_in}
 use Rattle.c_tree.specs.BareExpression.{Tree, Trees, constant, name, null, unary, binary, bracket, none, more}
 use Rattle.c_tree.specs.BareExpression as e
-use Rattle.c_tree.specs.BareStatement.{Action, Actions, declare, assign, call, block, when, return, no_more, then}
+use Rattle.c_tree.specs.BareStatement.{Actions, declare, assign, call, block, when, return, no_more, then}
 use Rattle.c_tree.specs.BareUnit.{BareHead, BareItem, struct, function}
 use Rattle.c_printed.specs.PrintedUnit.{Part, comment, blank, include, include_beside, define, if_not_defined, end_if, structure, routine, unit_text}
 use Rattle.c_printed.specs.Printable.{IsFree, IsConstant, ten, sixteen, w8}
 use Rattle.c_printed.specs.PrintableItem.{is_shown, IsHead}
 use Rattle.c_printed.specs.State.{State, nothing_known, with_headers}
 use Rattle.c_printed.specs.PrintableUnit.{IsHeaderAt, IsSource}
-use Rattle.c_printed.specs.Reread.{source_macros, macro_tokens}
+use Rattle.c_printed.specs.Reread.{macro_tokens}
 use Rattle.c_printed.specs.Law.{ReadAsUnit}
 use Rattle.c_printed.proofs.Spelled.{given-name}
 use Rattle.c_recut.proofs.PairLaw.{pair-reads}
@@ -107,12 +106,56 @@ header-right : IsHeaderAt with_string header
 unfolding keyword_in kind_in
 header-right = record {
   right = (
-    pass-all is_shown (codes "Generated.") refl, ((free (codes "E_H") refl refl refl, refl), ((free (codes "E_H") refl refl refl, tt, tt), (tt,
-    (tt, (tt, (tt, (tt,
-    ((free (codes "EINVAL") refl refl refl, refl), ((free (codes "EINVAL") refl refl refl, (small 22 false (omega arith), tt), tt), (tt, (tt,
-    ((free (codes "E_ID") refl refl refl, (id-small, tt), tt), ((free (codes "E_ID") refl refl refl, (id-small, tt), refl), (tt,
-    ((free (codes "e_t") refl refl refl, tt, (record { about = pass-all is_shown (codes "On [-]") refl; kind = w8; name = free (codes "on") refl refl refl }, tt), (refl, ((refl, refl), tt))), (tt,
-    ((is-head, tt, ((refl, refl, ((refl, refl), ((refl, refl), ((refl, refl), tt)))), tt)), (tt, (tt, tt)))))))))))))))))))
+    pass-all is_shown (codes "Generated.") refl,
+    (
+      (free (codes "E_H") refl refl refl, refl),
+      (
+        (free (codes "E_H") refl refl refl, tt, tt),
+        (
+          tt,
+          (
+            tt,
+            (
+              tt,
+              (
+                tt,
+                (
+                  tt,
+                  (
+                    (free (codes "EINVAL") refl refl refl, refl),
+                    (
+                      (free (codes "EINVAL") refl refl refl, (small 22 false (omega arith), tt), tt),
+                      (
+                        tt,
+                        (
+                          tt,
+                          (
+                            (free (codes "E_ID") refl refl refl, (id-small, tt), tt),
+                            (
+                              (free (codes "E_ID") refl refl refl, (id-small, tt), refl),
+                              (
+                                tt,
+                                (
+                                  (free (codes "e_t") refl refl refl, tt, (record { about = pass-all is_shown (codes "On [-]") refl; kind = w8; name = free (codes "on") refl refl refl }, tt), (refl, ((refl, refl), tt))),
+                                  (
+                                    tt,
+                                    ((is-head, tt, ((refl, refl, ((refl, refl), ((refl, refl), ((refl, refl), tt)))), tt)), (tt, (tt, tt))),
+                                  ),
+                                ),
+                              ),
+                            ),
+                          ),
+                        ),
+                      ),
+                    ),
+                  ),
+                ),
+              ),
+            ),
+          ),
+        ),
+      ),
+    ),
   );
   balanced = refl;
 }
@@ -120,18 +163,47 @@ header-right = record {
 source-right : IsSource (codes "e.h") header source
 unfolding keyword_in kind_in
 source-right = record {
-  right = (tt, (tt, ((record { is = refl; not_empty = omega arith; shown = pass-all in_string (codes "e.h") refl; plain = pass-all is_plain (codes "e.h") refl }, header-right), (tt, (
-    (is-head,
-    ((w8, free (codes "x") refl refl refl, free (codes "true") refl refl refl),
-    (((omega arith, free (codes "size") refl refl refl, small 8 true (omega arith)), ((tt, free (codes "EINVAL") refl refl refl), tt)),
-    (((omega arith, free (codes "dst_p") refl refl refl, tt), ((tt, small 1 false (omega arith)), tt)),
-    ((tt, (free (codes "dst_p") refl refl refl, (small 0 false (omega arith), (small 8 true (omega arith), tt)))),
-    ((refl, (free (codes "dst_p") refl refl refl, small 0 false (omega arith)), (w8, (free (codes "src_p") refl refl refl, free (codes "on") refl refl refl))),
-    ((refl, free (codes "x") refl refl refl, free (codes "E_ID") refl refl refl),
-    (small 0 false (omega arith), tt))))))),
-    ((refl, refl, ((refl, refl), ((refl, refl), ((refl, refl), tt)))),
-    ((refl, refl, (refl, tt)), ((((refl, tt), tt), ((refl, tt), tt)), ((((refl, tt), refl), (tt, tt)), ((refl, ((refl, tt), (tt, (tt, tt)))), ((tt, (refl, tt), (refl, (refl, refl))), ((refl, (refl, tt), (refl, tt)), (tt, tt))))))))),
-    tt)))));
+  right = (
+    tt,
+    (
+      tt,
+      (
+        (record { is = refl; not_empty = omega arith; shown = pass-all in_string (codes "e.h") refl; plain = pass-all is_plain (codes "e.h") refl }, header-right),
+        (
+          tt,
+          (
+            (
+              is-head,
+              (
+                (w8, free (codes "x") refl refl refl, free (codes "true") refl refl refl),
+                (
+                  ((omega arith, free (codes "size") refl refl refl, small 8 true (omega arith)), ((tt, free (codes "EINVAL") refl refl refl), tt)),
+                  (
+                    ((omega arith, free (codes "dst_p") refl refl refl, tt), ((tt, small 1 false (omega arith)), tt)),
+                    (
+                      (tt, (free (codes "dst_p") refl refl refl, (small 0 false (omega arith), (small 8 true (omega arith), tt)))),
+                      (
+                        (refl, (free (codes "dst_p") refl refl refl, small 0 false (omega arith)), (w8, (free (codes "src_p") refl refl refl, free (codes "on") refl refl refl))),
+                        (
+                          (refl, free (codes "x") refl refl refl, free (codes "E_ID") refl refl refl),
+                          (small 0 false (omega arith), tt),
+                        ),
+                      ),
+                    ),
+                  ),
+                ),
+              ),
+              (
+                (refl, refl, ((refl, refl), ((refl, refl), ((refl, refl), tt)))),
+                ((refl, refl, (refl, tt)), ((((refl, tt), tt), ((refl, tt), tt)), ((((refl, tt), refl), (tt, tt)), ((refl, ((refl, tt), (tt, (tt, tt)))), ((tt, (refl, tt), (refl, (refl, refl))), ((refl, (refl, tt), (refl, tt)), (tt, tt))))))),
+              ),
+            ),
+            tt,
+          ),
+        ),
+      ),
+    ),
+  );
   balanced = refl;
 }
 

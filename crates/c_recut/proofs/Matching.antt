@@ -116,7 +116,12 @@ pairs = record {
   round = record { kind = Round; o_opens = refl; c_opens = refl; c_closes = refl; same = refl };
   square = record { kind = Square; o_opens = refl; c_opens = refl; c_closes = refl; same = refl };
   brace = record { kind = Brace; o_opens = refl; c_opens = refl; c_closes = refl; same = refl };
-  f_arrow = (refl, refl); f_comma = (refl, refl); f_semicolon = (refl, refl); f_colon = (refl, refl); f_equal = (refl, refl); f_star = (refl, refl);
+  f_arrow = (refl, refl);
+  f_comma = (refl, refl);
+  f_semicolon = (refl, refl);
+  f_colon = (refl, refl);
+  f_equal = (refl, refl);
+  f_star = (refl, refl);
 }
 
 operator-flat : (o : BinaryOp) → IsFlat (Mark (operator_text o))

@@ -1,13 +1,11 @@
 -- A printed source beside a printed header reads as the items of both, and a printed header alone as its own.
-use Rattle.std.proofs.Common.{◌≡◌, ℕ, List, [], ◌∷◌, ◌++◌, map, Option, Some, None, Result, Ok, Err, refl, sym, ap, subst, ◌∙◌, append-nil}
+use Rattle.std.proofs.Common.{◌≡◌, ℕ, List, [], ◌∷◌, map, Some, Result, Ok, Err, refl, sym, ap, subst, append-nil}
 use Rattle.std.specs.List.{AllByRecursion}
-use Rattle.c_text.specs.declared.token.TokenKind.{TokenKind}
 use Rattle.c_text.specs.declared.preprocessed.Preprocessed.{Preprocessed}
 use Rattle.c_text.specs.declared.refusal.CKind.{CKind}
 use Rattle.c_text.specs.Refusal.{Refusal}
 use Rattle.c_text.specs.Preprocessing.{preprocessed_texts}
 use Rattle.c_text.specs.BarePreprocessing.{BareLeft, token_kinds, macro_kinds, bare_preprocessed}
-use Rattle.c_tree.specs.BareUnit.{BareItem}
 use Rattle.c_printed.specs.PrintedUnit.{Part, include_beside, part_text, unit_text}
 use Rattle.c_printed.specs.Within.{ItemWithin}
 use Rattle.c_printed.specs.State.{State, nothing_known}

@@ -1,5 +1,5 @@
 -- The header declares its constants: its parts may be printed, and what is printed reads back.
-use Rattle.std.proofs.Common.{◌≡◌, ℕ, ◌+◌, ◌<◌, true, false, List, [], ◌∷◌, ◌++◌, map, length, Some, None, refl, sym, ap, subst, ◌∙◌, arith, length-append}
+use Rattle.std.proofs.Common.{◌≡◌, ℕ, true, false, List, [], ◌∷◌, ◌++◌, map, Some, None, refl, sym, ap, subst, ◌∙◌, arith, length-append}
 use Rattle.std.specs.Prelude.{codes}
 use Rattle.std.specs.List.{AllByRecursion, flat_map, zip}
 use Rattle.std.proofs.lemmas.Bool.Decides.{nat_tests}
@@ -14,19 +14,18 @@ use Rattle.c_text.specs.Splice.{is_plain}
 use Rattle.c_text.specs.Piece.{in_string}
 use Rattle.c_text.proofs.Boundary.{pass-all, pass-append}
 use Rattle.c_text.proofs.PrintedLines.{bytes-in_string, bytes-plain}
-use Rattle.c_tree.specs.BareUnit.{BareItem}
-use Rattle.c_printed.specs.PrintedUnit.{if_not_defined, define, end_if}
+use Rattle.c_printed.specs.PrintedUnit.{end_if}
 use Rattle.c_printed.specs.Within.{ItemWithin}
 use Rattle.c_printed.specs.State.{nothing_known}
 use Rattle.c_printed.specs.PrintableUnit.{IsBeside, Balanced, IsHeaderAt}
-use Rattle.c_printed.specs.Reread.{header_items, header_macros, macro_tokens}
+use Rattle.c_printed.specs.Reread.{header_items, macro_tokens}
 use Rattle.c_printed.specs.Law.{ReadAsUnit}
 use Rattle.c_recut.proofs.PairLaw.{header-reads}
-use Rattle.gen_unit.specs.Header.{error_name, number, message_parts, all_message_parts, header_parts, header_text}
+use Rattle.gen_unit.specs.Header.{error_name, number, all_message_parts, header_parts, header_text}
 use Rattle.gen_unit.specs.HeaderMeaning.{Macro, constants_of, macros_of, header_name, including, DeclaresConstants}
 use Rattle.gen_unit.specs.Small.{AreSmall}
 use Rattle.gen_unit.proofs.Names.{all_macros, guard-is_free, macros-are_own}
-use Rattle.gen_unit.proofs.NewMacros.{Prints, prints-header}
+use Rattle.gen_unit.proofs.NewMacros.{prints-header}
 
 -- ---- the name of the header
 

@@ -17,9 +17,9 @@ use Rattle.c_printed.specs.PrintableItem.{is_shown, IsShown}
 use Rattle.c_printed.specs.State.{Macro, State, nothing_known, header_named, listed, unless_known, with_macros, with_headers}
 use Rattle.c_printed.specs.PrintableUnit.{IsBody, IsSame, IsKnown, AllRight, no_header}
 use Rattle.c_printed.specs.Reread.{header_items, header_macros}
-use Rattle.gen_unit.specs.Header.{opening_text, error_name, bool_header, size_header, integer_header, shown_byte, about, number, message_parts, all_message_parts, opening_parts, include_parts, error_parts, header_parts}
-use Rattle.gen_unit.specs.Small.{IsSmallMessage, AreSmall}
-use Rattle.gen_unit.proofs.Names.{message_macros, all_macros, names, either_false, both_true, GuardIsFree, AreOwn}
+use Rattle.gen_unit.specs.Header.{opening_text, error_name, bool_header, size_header, integer_header, shown_byte, about, number, all_message_parts, include_parts, error_parts, header_parts}
+use Rattle.gen_unit.specs.Small.{AreSmall}
+use Rattle.gen_unit.proofs.Names.{all_macros, names, either_false, both_true, GuardIsFree, AreOwn}
 
 -- ---- comments
 
@@ -149,13 +149,13 @@ prints-header ms t small g own =
     let s3 = with_macros s2 ((error_name, Some (number 22 10 false)) ∷ []) in
     let body = prints-messages s3 ms t.messages small own.free own.distinct (none-in-front guard ds own.no_guard own.no_error) in
     let error : Prints s2 (error_parts ++ messages) ((error_name, Some (number 22 10 false)) ∷ ds) =
-        prints-ifndef s2 error_name _ _ error-free no_error
-        (prints-define s2 error_name (Some (number 22 10 false)) (end_if ∷ blank ∷ messages) ds error-free (decimal-constant 22 false (omega arith), tt) no_error
-        (prints-end s3 (blank ∷ messages) ds (prints-blank s3 messages ds body))) in
+    prints-ifndef s2 error_name _ _ error-free no_error
+    (prints-define s2 error_name (Some (number 22 10 false)) (end_if ∷ blank ∷ messages) ds error-free (decimal-constant 22 false (omega arith), tt) no_error
+    (prints-end s3 (blank ∷ messages) ds (prints-blank s3 messages ds body))) in
     let includes : Prints s1 (include_parts ++ (error_parts ++ messages)) ((error_name, Some (number 22 10 false)) ∷ ds) =
-        prints-include s1 bool_header _ _ tt
-        (prints-include _ size_header _ _ tt
-        (prints-include _ integer_header _ _ tt (prints-blank s2 (error_parts ++ messages) _ error))) in
+    prints-include s1 bool_header _ _ tt
+    (prints-include _ size_header _ _ tt
+    (prints-include _ integer_header _ _ tt (prints-blank s2 (error_parts ++ messages) _ error))) in
     prints-comment nothing_known (map shown_byte opening_text) _ _ (shown opening_text)
     (prints-blank nothing_known _ _
     (prints-ifndef nothing_known guard _ _ g.free refl

@@ -35,11 +35,7 @@ pub fn header_unit(
 fn put_opening_comment(alloc: Global, parts: &mut List<Part>) -> Result<(), Memory>
     ensures { OnOk result (bare_parts parts.new ≡ bare_parts parts.old ++ remark opening_text ∷ []) }
 {
-    put_comment(
-        alloc,
-        parts,
-        b"Generated from a CAN database. Do not edit.",
-    )
+    put_comment(alloc, parts, b"Generated from a CAN database. Do not edit.")
 }
 
 fn put_opening(alloc: Global, parts: &mut List<Part>, guard: &[u8]) -> Result<(), Memory>

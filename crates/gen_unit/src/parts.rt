@@ -96,11 +96,7 @@ pub fn put_include(alloc: Global, parts: &mut List<Part>, name: &[u8]) -> Result
     )
 }
 
-pub fn put_if_not_defined(
-    alloc: Global,
-    parts: &mut List<Part>,
-    name: &[u8],
-) -> Result<(), Memory>
+pub fn put_if_not_defined(alloc: Global, parts: &mut List<Part>, name: &[u8]) -> Result<(), Memory>
     ensures { OnOk result (bare_parts parts.new ≡ bare_parts parts.old ++ spec.if_not_defined name.now ∷ []) }
 {
     put(parts, Part::IfNotDefined(Text::copy_of(alloc, name)?))
