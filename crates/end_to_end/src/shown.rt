@@ -321,7 +321,7 @@ fn write_fields(line: &mut Line, list: &[Field]) -> Result<(), Memory> {
     Ok(())
 }
 
-fn write_struct(line: &mut Line, item: &Struct) -> Result<(), Memory> {
+pub(super) fn write_struct(line: &mut Line, item: &Struct) -> Result<(), Memory> {
     line.word(b"(struct")?;
     line.leaf(item.tag.bytes(), item.place)?;
     write_fields(line, item.fields.items())?;
@@ -329,7 +329,7 @@ fn write_struct(line: &mut Line, item: &Struct) -> Result<(), Memory> {
 }
 
 /// A definition has `:` before its statements.
-fn write_function(line: &mut Line, item: &Function) -> Result<(), Memory> {
+pub(super) fn write_function(line: &mut Line, item: &Function) -> Result<(), Memory> {
     line.word(b"(")?;
     if item.fixed {
         line.word(b"static")?;
