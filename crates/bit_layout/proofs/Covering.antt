@@ -1,16 +1,14 @@
 -- The segments by numbers tell the place of each bit, once.
-use Rattle.std.proofs.Common.{◌≡◌, ℕ, zero, suc, ◌+◌, ◌-◌, ◌*◌, ◌/◌, ◌<◌, ◌≤◌, List, [], ◌∷◌, length, map, Option, Some, None, inl, inr, refl, sym, ap, subst, ◌∙◌, arith}
+use Rattle.std.proofs.Common.{◌≡◌, ℕ, zero, suc, ◌+◌, ◌-◌, ◌/◌, ◌<◌, ◌≤◌, ◌∷◌, length, map, refl, sym, ap, subst, arith}
 use Rattle.std.specs.Prelude.{slice_get, IsSomeAnd, get_or}
 use Rattle.std.specs.List.{range_with_len, AllByRecursion}
 use Rattle.std.specs.List.Sorted.{IsStrictlyIncreasing}
-use Rattle.std.proofs.lemmas.Bool.Decides.{leb_tells}
 use Rattle.std.proofs.lemmas.List.FromFn.{length-range_with_len, get_or-range_with_len}
 use Rattle.can_model.specs.declared.database.Signal.{Signal}
 use Rattle.can_model.specs.Place.{place_of}
-use Rattle.bit_layout.specs.declared.walk.Segment.{Segment}
 use Rattle.bit_layout.specs.Covers.{HasBit, IsInOne, Covers, IsWithin, TellsPlaces}
 use Rattle.bit_layout.specs.Segments.{segments_of}
-use Rattle.bit_layout.specs.Numbers.{from_at, end_at, segment_at, segments_by_numbers}
+use Rattle.bit_layout.specs.Numbers.{segments_by_numbers}
 use Rattle.bit_layout.proofs.Places.{IsTouched, within, place, among, only, touched}
 use Rattle.bit_layout.proofs.Grouping.{from_of, end_of, numbers, segments-by_numbers}
 

@@ -1,7 +1,7 @@
 -- The segments by numbers are the groups of places by bytes.
-use Rattle.std.proofs.Common.{◌≡◌, ℕ, zero, suc, ◌+◌, ◌-◌, ◌*◌, ◌/◌, ◌%◌, ◌<◌, ◌≤◌, Bool, true, false, List, [], ◌∷◌, length, map, Option, Some, None, inl, inr, refl, sym, ap, ◌∙◌, arith}
+use Rattle.std.proofs.Common.{◌≡◌, ℕ, zero, suc, ◌+◌, ◌-◌, ◌*◌, ◌/◌, ◌<◌, ◌≤◌, length, Some, None, inl, inr, refl, ap, ◌∙◌, arith}
 use Rattle.std.specs.Prelude.{◌⊎◌, ◌==◌}
-use Rattle.std.specs.List.{range_with_len, filter}
+use Rattle.std.specs.List.{range_with_len}
 use Rattle.std.proofs.lemmas.Bool.Decides.{eqb_tells}
 use Rattle.std.proofs.lemmas.List.FromFn.{length-range_with_len}
 use Rattle.can_model.specs.declared.database.Signal.{Signal}
@@ -11,7 +11,7 @@ use Rattle.bit_layout.specs.Covers.{IsWithin, HasBit}
 use Rattle.bit_layout.specs.Segments.{bits_in, segment_of, segments_of}
 use Rattle.bit_layout.specs.Numbers.{from_at, end_at, segment_at, segments_by_numbers}
 use Rattle.bit_layout.proofs.Places.{end_behind, IsTouched, within, place, among, only, touched, near}
-use Rattle.bit_layout.proofs.Runs.{IsRun, filter_none, filter_run, GivesRun, gives_run}
+use Rattle.bit_layout.proofs.Runs.{IsRun, filter_none, filter_run, gives_run}
 
 abbrev pub from_of : Signal → ℕ
 from_of s = from_at s.motorola s.start

@@ -1,5 +1,5 @@
 -- Tests and choices that hold on a run of numbers, and nowhere else in a range.
-use Rattle.std.proofs.Common.{◌≡◌, ℕ, zero, suc, ◌+◌, ◌<◌, ◌≤◌, Bool, true, false, List, [], ◌∷◌, map, Option, Some, None, inl, inr, refl, ap, arith}
+use Rattle.std.proofs.Common.{◌≡◌, ℕ, zero, suc, ◌+◌, ◌<◌, ◌≤◌, Bool, true, false, [], ◌∷◌, map, Option, Some, None, inl, inr, refl, ap, arith}
 use Rattle.std.specs.Prelude.{◌⊎◌}
 use Rattle.std.specs.List.{range_with_len, filter, filter_map}
 use Rattle.std.proofs.lemmas.Bool.Decides.{leb_tells, eqb_tells}

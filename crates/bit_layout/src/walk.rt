@@ -106,18 +106,15 @@ fn segment_at(motorola: bool, from: u32, length: u32, byte: u32) -> Segment
 {
     let low = from.max(8 * byte);
     let high = (from + length).min(8 * byte + 8);
+    let (signal_low, byte_low) = if motorola {
+        (from + length - high, 8 * byte + 8 - high)
+    } else {
+        (low - from, low - 8 * byte)
+    };
     Segment {
         byte,
-        signal_low: if motorola {
-            from + length - high
-        } else {
-            low - from
-        },
-        byte_low: if motorola {
-            8 * byte + 8 - high
-        } else {
-            low - 8 * byte
-        },
+        signal_low,
+        byte_low,
         count: high - low,
     }
 }

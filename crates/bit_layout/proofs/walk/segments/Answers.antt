@@ -1,8 +1,5 @@
 -- The segments by numbers are those of the definition.
-use Rattle.std.proofs.Common.{◌≡◌, ◌/◌, List, sym, subst}
-use Rattle.bit_layout.specs.declared.walk.Segment.{Segment}
-use Rattle.bit_layout.specs.Segments.{segments_of}
-use Rattle.bit_layout.specs.Numbers.{segments_from}
+use Rattle.std.proofs.Common.{sym}
 use Rattle.bit_layout.proofs.Grouping.{segments-by_numbers}
 use Rattle.bit_layout.proofs.Covering.{segments-cover}
 use Rattle.bit_layout.proofs.walk.segments.Goals as goal
