@@ -10,17 +10,19 @@ use Rattle.bit_layout.specs.Numbers.{from_at, end_at, segment_at}
 abbrev pub place_at : Bool → ℕ → ℕ → ℕ → ℕ
 place_at motorola start length k = if motorola then rank (rank start + (length - (k + 1))) else start + k
 
+-- the byte behind the last, of a signal with bits
 pub end_behind : (from n : ℕ) → end_at from (suc n) ≡ (from + n) / 8 + 1
 end_behind from n = elim (eqb_tells (suc n) 0) [
   | inl a ↦ absurd (omega (arith, a.1))
   | inr a ↦ rw a.0 (let e : from + suc n - 1 ≡ from + n = omega arith in ap (λ m. m / 8 + 1) e)
 ]
 
--- a byte in which bits stand
+-- a byte from the first up to the last
 pub record IsTouched (from length byte : ℕ) : Type 0 where
   pub low : from / 8 ≤ byte
   pub high : byte < end_at from length
 
+-- in each of these bytes stand some bits
 pub within : (motorola : Bool) (from length byte : ℕ) → IsTouched from length byte → IsWithin length (segment_at motorola from length byte)
 within motorola from zero byte t = let a = t.low in let b : byte < from / 8 = t.high in absurd (omega arith)
 within true from (suc n) byte t = let a = t.low in let b : byte < (from + n) / 8 + 1 = subst (λ e. byte < e) (end_behind from n) t.high in record { some = omega arith; in_signal = omega arith; in_byte = omega arith }
@@ -54,12 +56,13 @@ pub only : (motorola : Bool) (start length k byte : ℕ) → HasBit k (segment_a
 only true start length k byte h = let a = h.low in let b = h.high in omega arith
 only false start length k byte h = let a = h.low in let b = h.high in omega arith
 
+-- a bit stands in one of these bytes
 pub touched : (motorola : Bool) (start length k : ℕ) → k < length → IsTouched (from_at motorola start) length (place_at motorola start length k / 8)
 touched motorola start zero k h = absurd (omega arith)
 touched true start (suc n) k h = let e = end_behind (rank start) n in record { low = omega arith; high = omega (arith, e) }
 touched false start (suc n) k h = let e = end_behind start n in record { low = omega arith; high = omega (arith, e) }
 
--- no bit stands as far as the bytes that are looked through
+-- the bytes that the definition looks through are enough
 pub near : (motorola : Bool) (start length : ℕ) → end_at (from_at motorola start) length ≤ start / 8 + length + 1
 near true start zero = omega arith
 near false start zero = omega arith

@@ -52,7 +52,7 @@ impl Model for SegmentWalk {
 
 /// The segments of a signal: one for each byte in which bits of it stand, by rising byte.
 ///
-/// No memory is taken.
+/// A signal of no bits has none. No memory is taken.
 pub fn segments(signal: &Signal) -> SegmentWalk
     requires length { signal.now.length ≤ 64 }
     requires start { signal.now.start ≤ 65535 }
