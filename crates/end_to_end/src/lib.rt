@@ -1,8 +1,10 @@
 //! Rows over the whole program: `cli_tool::run` over files and a sink in memory, what it writes,
 //! read as C by `c_lexer::tokens` and `c_pre::expand`, and a table of C, with its trees by
-//! `c_parser::unit` or its first fault beside it.
+//! `c_parser::unit` or its first fault beside it; and units of C that are printed and read back.
 #![tactic(auto)]
 
+#[cfg(test)]
+mod built;
 #[cfg(test)]
 mod checks;
 #[cfg(test)]
