@@ -25,8 +25,8 @@ use Rattle.c_effect.specs.ExpressionValue.{is_logical}
 use Rattle.c_effect.proofs.Expressions.{Gives, gives-Name, gives-Binary, gives-Bracket, gives-Cast}
 use Rattle.shift_helpers.specs.declared.helper.HelperKind.{HelperKind}
 use Rattle.shift_helpers.specs.declared.helper.HelperKind.TheVariants as h
-use Rattle.shift_helpers.specs.HelperResult.{result, taken_width, given_width, shift_limit}
-use Rattle.shift_helpers.specs.HelperTree.{IsWidth, nowhere, packed, unpacked, returned}
+use Rattle.shift_helpers.specs.HelperResult.{IsWidth, result, taken_width, given_width, shift_limit}
+use Rattle.shift_helpers.specs.HelperTree.{nowhere, packed, unpacked, returned}
 
 -- the three parameters hold numbers
 pub record Held (m : DataModel) (locals : List Block) (w x s y : ℕ) : Type 0 where

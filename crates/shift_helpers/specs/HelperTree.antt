@@ -1,5 +1,5 @@
 -- The helpers as trees: a name, three parameters and the one expression that is returned.
-use Rattle.std.specs.Prelude.{◌≡◌, ℕ, true, false, ◌==◌, if◌then◌else◌, ◌⊎◌, List, [], ◌∷◌, ◌++◌, codes, Some}
+use Rattle.std.specs.Prelude.{ℕ, true, false, ◌==◌, if◌then◌else◌, List, [], ◌∷◌, ◌++◌, codes, Some}
 use Rattle.c_text.specs.declared.place.Place.{Place}
 use Rattle.c_text.specs.declared.token.Spelled.TheVariants.{Exact}
 use Rattle.c_tree.specs.declared.expression.BinaryOp.{BinaryOp}
@@ -17,10 +17,6 @@ use Rattle.c_tree.specs.declared.statement.StmtKind.TheVariants.{Return}
 use Rattle.shift_helpers.specs.declared.helper.HelperKind.{HelperKind}
 use Rattle.shift_helpers.specs.declared.helper.HelperKind.TheVariants as h
 use Rattle.shift_helpers.specs.HelperResult.{taken_width, given_width}
-
--- 7.18.1.1: the widths of values, in bits
-abbrev pub IsWidth : ℕ → Type 0
-IsWidth w = (w ≡ 8) ⊎ ((w ≡ 16) ⊎ ((w ≡ 32) ⊎ (w ≡ 64)))
 
 -- ---- expressions
 

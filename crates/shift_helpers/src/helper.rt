@@ -1,6 +1,7 @@
 //! The helpers, whole.
 ghost use Rattle.std.specs.Prelude.{◌≡◌, IfOk};
-ghost use Rattle.shift_helpers.specs.HelperTree.{IsWidth, helper};
+ghost use Rattle.shift_helpers.specs.HelperResult.{IsWidth};
+ghost use Rattle.shift_helpers.specs.HelperTree.{helper};
 ghost use Rattle.shift_helpers.specs.HelperMeaning.{Helps};
 
 use crate::naming::helper_name;
