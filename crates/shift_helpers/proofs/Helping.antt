@@ -1,5 +1,5 @@
 -- What each helper gives: its parameters hold its arguments, converted, and its one statement returns the result. Then as a call in an expression.
-use Rattle.std.proofs.Common.{◌≡◌, ℕ, ◌^◌, ◌<◌, ◌≤◌, false, List, [], ◌∷◌, Some, refl, ◌∙◌, arith, Ok, pos, ℤ, inl}
+use Rattle.std.proofs.Common.{◌≡◌, ℕ, ◌^◌, ◌<◌, false, List, [], ◌∷◌, Some, refl, ◌∙◌, arith, pos, ℤ, inl}
 use Rattle.c_text.specs.declared.place.Place.{Place}
 use Rattle.c_text.specs.declared.token.IntType.{IntType}
 use Rattle.c_text.specs.declared.token.Spelled.TheVariants.{Exact}
@@ -73,9 +73,9 @@ module _ (m : DataModel) (one : IsOneOf m) (items : List Item) where
       → run_in (alone m items) (helper kind w) (passed z s mask) [] ≡ gave m (given_width kind w) (result kind w x s mask)
   runs-helper kind w iw z x s mask hz hx hs hm =
       runs-return (alone m items) (helper kind w) nowhere (returned kind w) (passed z s mask) [] (Exact (given_width kind w) false) (exact_type m (given_width kind w) false)
-        (pos (result kind w x s mask)) (pos (result kind w x s mask)) refl refl
-        (gives-returned (alone m items) one (parameters m (helper kind w) (passed z s mask)) [] kind w x s mask iw (holds kind w iw z x s mask hz (shift-small kind w s iw hs) hm) hx hs hm)
-        (exact-fits m one (given_width kind w) (result kind w x s mask) (given-width kind w iw) (result-below kind w x s mask iw hx))
+      (pos (result kind w x s mask)) (pos (result kind w x s mask)) refl refl
+      (gives-returned (alone m items) one (parameters m (helper kind w) (passed z s mask)) [] kind w x s mask iw (holds kind w iw z x s mask hz (shift-small kind w s iw hs) hm) hx hs hm)
+      (exact-fits m one (given_width kind w) (result kind w x s mask) (given-width kind w iw) (result-below kind w x s mask iw hx))
 
   -- a function runs alone as itself, wherever its text stands
   same : SameWorld (alone m items) (alone m items)
@@ -87,8 +87,8 @@ module _ (m : DataModel) (one : IsOneOf m) (items : List Item) where
       → run_in (alone m items) f (passed z s mask) [] ≡ gave m (given_width kind w) (result kind w x s mask)
   runs-alike kind w iw f alike z x s mask hz hx hs hm =
       ended-alike (run_in (alone m items) (helper kind w) (passed z s mask) []) (run_in (alone m items) f (passed z s mask) []) _ []
-        (run-alike m (structs items) (structs items) no_calls no_calls same (helper kind w) f alike (passed z s mask) [])
-        (runs-helper kind w iw z x s mask hz hx hs hm)
+      (run-alike m (structs items) (structs items) no_calls no_calls same (helper kind w) f alike (passed z s mask) [])
+      (runs-helper kind w iw z x s mask hz hx hs hm)
 
   -- a call of a function of the unit that is a helper but for places; the first argument is converted to the width that the helper takes
   pub calls-helper : (locals : List Block) (objects : List Object) (p : Place) (kind : HelperKind) (w : ℕ) → IsWidth w → (f : Function) (a b c : Expr) (ka kb kc : IntType) (z : ℤ) (x s mask : ℕ)
@@ -100,11 +100,13 @@ module _ (m : DataModel) (one : IsOneOf m) (items : List Item) where
   calls-helper locals objects p kind w iw f a b c ka kb kc z x s mask d alike ha hz hx hb hs hc hm =
       let u = unit_world m items in
       gives-call-of m items locals objects [] p (helper_name kind w) (a ∷ b ∷ c ∷ []) (typed ka z ∷ typed kb (pos s) ∷ typed kc (pos mask) ∷ [])
-        f (exact_type m (given_width kind w) false) (pos (result kind w x s mask)) d
-        (give-cons u locals objects a (b ∷ c ∷ []) ka z _ ha (give-cons u locals objects b (c ∷ []) kb (pos s) _ hb (give-cons u locals objects c [] kc (pos mask) [] hc (give-nil u locals objects))))
-        (runs-alike kind w iw f alike z x s mask hz hx hs hm)
+      f (exact_type m (given_width kind w) false) (pos (result kind w x s mask)) d
+      (give-cons u locals objects a (b ∷ c ∷ []) ka z _ ha (give-cons u locals objects b (c ∷ []) kb (pos s) _ hb (give-cons u locals objects c [] kc (pos mask) [] hc (give-nil u locals objects))))
+      (runs-alike kind w iw f alike z x s mask hz hx hs hm)
 
 -- a function that is a helper but for places helps
 pub alike-helps : (kind : HelperKind) (w : ℕ) → IsWidth w → (f : Function) → bare_item (item.Function (helper kind w)) ≡ bare_item (item.Function f) → Helps kind w f
-alike-helps kind w iw f alike = record { gives = λ int long pointer is items x s mask hx hs hm.
-    runs-alike (model_of int long pointer) (one_of int long pointer is) items kind w iw f alike (pos x) x s mask (unsigned-fits (taken_width kind w) x hx) hx hs hm }
+alike-helps kind w iw f alike = record {
+  gives = λ int long pointer is items x s mask hx hs hm.
+      runs-alike (model_of int long pointer) (one_of int long pointer is) items kind w iw f alike (pos x) x s mask (unsigned-fits (taken_width kind w) x hx) hx hs hm;
+}

@@ -53,15 +53,15 @@ module _ (v : World) (one : IsOneOf v.model) (locals : List Block) (objects : Li
   unfolding packed
   packs op w x s mask number low kind plain ps hm hl e h =
       gives-Cast v locals objects nowhere (Exact 8 false) _ t.Int (pos (bit_and low mask)) (pos (bit_and low mask))
-        (gives-Bracket v locals objects nowhere _ t.Int _ (gives-Binary v locals objects nowhere o.BitAnd _ _ (exact_type v.model 8 false) (exact_type v.model 8 false) t.Int (pos low) (pos mask) _ refl
-          (gives-Cast v locals objects nowhere (Exact 8 false) _ kind (pos number) (pos low)
-            (gives-Bracket v locals objects nowhere _ kind _ (gives-Binary v locals objects nowhere op _ _ (exact_type v.model w false) (exact_type v.model 8 false) kind (pos x) (pos s) (pos number) plain
-              (gives-Name v locals objects nowhere (codes "value") (exact_type v.model w false) (pos x) ps.value)
-              (gives-Name v locals objects nowhere (codes "shift") (exact_type v.model 8 false) (pos s) ps.shift) h))
-            ((unsigned-at v.model one 8 (inl refl)).converts (pos number) ∙ low-bits 8 number ∙ ap pos e))
-          (gives-Name v locals objects nowhere (codes "mask") (exact_type v.model 8 false) (pos mask) ps.mask)
-          (and-bytes low mask hl hm)))
-        (exact-fits v.model one 8 (bit_and low mask) (inl refl) (and-below low mask 8 hl))
+      (gives-Bracket v locals objects nowhere _ t.Int _ (gives-Binary v locals objects nowhere o.BitAnd _ _ (exact_type v.model 8 false) (exact_type v.model 8 false) t.Int (pos low) (pos mask) _ refl
+      (gives-Cast v locals objects nowhere (Exact 8 false) _ kind (pos number) (pos low)
+      (gives-Bracket v locals objects nowhere _ kind _ (gives-Binary v locals objects nowhere op _ _ (exact_type v.model w false) (exact_type v.model 8 false) kind (pos x) (pos s) (pos number) plain
+      (gives-Name v locals objects nowhere (codes "value") (exact_type v.model w false) (pos x) ps.value)
+      (gives-Name v locals objects nowhere (codes "shift") (exact_type v.model 8 false) (pos s) ps.shift) h))
+      ((unsigned-at v.model one 8 (inl refl)).converts (pos number) ∙ low-bits 8 number ∙ ap pos e))
+      (gives-Name v locals objects nowhere (codes "mask") (exact_type v.model 8 false) (pos mask) ps.mask)
+      (and-bytes low mask hl hm)))
+      (exact-fits v.model one 8 (bit_and low mask) (inl refl) (and-below low mask 8 hl))
 
   -- where the low bits of what the shift gives are known
   unpacks : (op : BinaryOp) (w x s mask number low : ℕ) (kind : IntType) → is_logical op ≡ false → IsWidth w → Held v.model locals 8 x s mask → x < 2 ^ 8 → mask < 2 ^ 8 → number % 2 ^ w ≡ low
@@ -72,16 +72,16 @@ module _ (v : World) (one : IsOneOf v.model) (locals : List Block) (objects : Li
       let byte : bit_and x mask < 2 ^ 8 = and-below x mask 8 hx in
       let wide : 2 ^ 8 ≤ 2 ^ w = pow_mono {i = 8} (width-low w iw) in
       gives-Cast v locals objects nowhere (Exact w false) _ kind _ (pos low)
-        (gives-Bracket v locals objects nowhere _ kind _ (gives-Binary v locals objects nowhere op _ _ (exact_type v.model w false) (exact_type v.model 8 false) kind (pos (bit_and x mask)) (pos s) (pos number) plain
-          (gives-Cast v locals objects nowhere (Exact w false) _ t.Int (pos (bit_and x mask)) (pos (bit_and x mask))
-            (gives-Bracket v locals objects nowhere _ t.Int _ (gives-Binary v locals objects nowhere o.BitAnd _ _ (exact_type v.model 8 false) (exact_type v.model 8 false) t.Int (pos x) (pos mask) (pos (bit_and x mask)) refl
-              (gives-Name v locals objects nowhere (codes "value") (exact_type v.model 8 false) (pos x) ps.value)
-              (gives-Name v locals objects nowhere (codes "mask") (exact_type v.model 8 false) (pos mask) ps.mask)
-              (and-bytes x mask hx hm)))
-            (exact-fits v.model one w (bit_and x mask) iw (omega arith)))
-          (gives-Name v locals objects nowhere (codes "shift") (exact_type v.model 8 false) (pos s) ps.shift)
-          h))
-        ((unsigned-at v.model one w iw).converts (pos number) ∙ low-bits w number ∙ ap pos e)
+      (gives-Bracket v locals objects nowhere _ kind _ (gives-Binary v locals objects nowhere op _ _ (exact_type v.model w false) (exact_type v.model 8 false) kind (pos (bit_and x mask)) (pos s) (pos number) plain
+      (gives-Cast v locals objects nowhere (Exact w false) _ t.Int (pos (bit_and x mask)) (pos (bit_and x mask))
+      (gives-Bracket v locals objects nowhere _ t.Int _ (gives-Binary v locals objects nowhere o.BitAnd _ _ (exact_type v.model 8 false) (exact_type v.model 8 false) t.Int (pos x) (pos mask) (pos (bit_and x mask)) refl
+      (gives-Name v locals objects nowhere (codes "value") (exact_type v.model 8 false) (pos x) ps.value)
+      (gives-Name v locals objects nowhere (codes "mask") (exact_type v.model 8 false) (pos mask) ps.mask)
+      (and-bytes x mask hx hm)))
+      (exact-fits v.model one w (bit_and x mask) iw (omega arith)))
+      (gives-Name v locals objects nowhere (codes "shift") (exact_type v.model 8 false) (pos s) ps.shift)
+      h))
+      ((unsigned-at v.model one w iw).converts (pos number) ∙ low-bits w number ∙ ap pos e)
 
   -- what each helper returns
   pub gives-returned : (kind : HelperKind) (w x s mask : ℕ) → IsWidth w → Held v.model locals (taken_width kind w) x s mask
@@ -94,7 +94,7 @@ module _ (v : World) (one : IsOneOf v.model) (locals : List Block) (objects : Li
   gives-returned h.PackRight w x s mask iw ps hx hs hm =
       let f = unsigned-at v.model one w iw in
       packs o.ShiftRight w x s mask (x / 2 ^ s) (x / 2 ^ s % 2 ^ 8) f.promoted refl ps hm (mod-lt (x / 2 ^ s) (pow_pos 8)) refl
-        (operate-ShiftRight v.model (exact_type v.model w false) (exact_type v.model 8 false) f.promoted x s f.promotes (fits-at v.model f.promoted x w hx f.wide) (omega (arith, f.counts)))
+      (operate-ShiftRight v.model (exact_type v.model w false) (exact_type v.model 8 false) f.promoted x s f.promotes (fits-at v.model f.promoted x w hx f.wide) (omega (arith, f.counts)))
   gives-returned h.UnpackLeft w x s mask iw ps hx hs hm =
       let r = raised v.model one w (bit_and x mask) s iw (and-below x mask 8 hx) hs in
       unpacks o.ShiftLeft w x s mask r.number (bit_and x mask * 2 ^ s % 2 ^ w) r.kind refl iw ps hx hm r.low (rw (exact-byte v.model one) r.is)
@@ -106,7 +106,7 @@ module _ (v : World) (one : IsOneOf v.model) (locals : List Block) (objects : Li
       let wide : 2 ^ 8 ≤ 2 ^ w = pow_mono {i = 8} least in
       let le : y / 2 ^ s ≤ y = shr_le y s in
       unpacks o.ShiftRight w x s mask (y / 2 ^ s) (y / 2 ^ s) f.promoted refl iw ps hx hm (mod-eq_of_lt (omega arith))
-        (operate-ShiftRight v.model (exact_type v.model w false) (exact_type v.model 8 false) f.promoted y s f.promotes (fits-at v.model f.promoted y 8 byte (omega (arith, f.wide))) (omega (arith, f.counts)))
+      (operate-ShiftRight v.model (exact_type v.model w false) (exact_type v.model 8 false) f.promoted y s f.promotes (fits-at v.model f.promoted y 8 byte (omega (arith, f.wide))) (omega (arith, f.counts)))
 
 -- and that it is of its width
 pub result-below : (kind : HelperKind) (w x s mask : ℕ) → IsWidth w → x < 2 ^ taken_width kind w → result kind w x s mask < 2 ^ given_width kind w

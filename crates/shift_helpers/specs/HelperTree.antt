@@ -12,7 +12,6 @@ use Rattle.c_tree.specs.declared.item.CType.TheVariants.{Integer}
 use Rattle.c_tree.specs.declared.item.Field.{Field}
 use Rattle.c_tree.specs.declared.item.Function.{Function}
 use Rattle.c_tree.specs.declared.statement.Stmt.{Stmt}
-use Rattle.c_tree.specs.declared.statement.StmtKind.{StmtKind}
 use Rattle.c_tree.specs.declared.statement.StmtKind.TheVariants.{Return}
 use Rattle.shift_helpers.specs.declared.helper.HelperKind.{HelperKind}
 use Rattle.shift_helpers.specs.declared.helper.HelperKind.TheVariants as h

@@ -57,13 +57,7 @@ fn name_of(alloc: Global, name: &[u8]) -> Result<Expr, Memory>
 }
 
 /// `(uintW_t)(left op right)`.
-fn cast_of(
-    alloc: Global,
-    width: u32,
-    op: BinaryOp,
-    left: Expr,
-    right: Expr,
-) -> Result<Expr, Memory>
+fn cast_of(alloc: Global, width: u32, op: BinaryOp, left: Expr, right: Expr) -> Result<Expr, Memory>
     ensures { IfOk result (λ e. e ≡ spec.cast_of width op left right) }
 {
     let left = Boxed::new(alloc, left)?;
