@@ -29,8 +29,8 @@ pub struct Helper<const W: u32>;
 impl<const W: u32> Helper<W> {
     /// The definition of a helper, `static`; the mask has the bits of the byte that are wanted.
     ///
-    /// Its value is the one of these four, where `x` is its first argument, whatever the widths of
-    /// `int` and `long`: no shift is undefined (6.5.7p3 and p4), and both conversions keep the low
+    /// A call gives, under every data model, the number of its kind below, where `x` is the first
+    /// argument and `W` is 16: no shift is undefined (6.5.7p3 and p4), and both casts keep the low
     /// bits (6.3.1.3p2).
     ///
     /// ```text
