@@ -1,0 +1,4 @@
+-- What the promises rest on.
+pub mod HelperResult
+pub mod HelperTree
+pub mod HelperMeaning
