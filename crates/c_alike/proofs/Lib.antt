@@ -1,0 +1,2 @@
+-- What expressions and statements are, by their forms.
+pub mod TypedNodes
