@@ -1,2 +1,5 @@
 -- What expressions and statements are, by their forms.
 pub mod TypedNodes
+-- Places do not matter.
+pub mod Unplaced
+pub mod UnplacedExpressions

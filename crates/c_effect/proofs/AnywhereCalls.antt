@@ -37,7 +37,7 @@ use Rattle.c_effect.proofs.AnywhereStatements.{SameEffect, sequence-agree, seque
 
 -- ---- fields of structs
 
-regrown : (fs : List Field) → map grown_field (map u.bare_field fs) ≡ map placeless_field fs
+pub regrown : (fs : List Field) → map grown_field (map u.bare_field fs) ≡ map placeless_field fs
 regrown [] = refl
 regrown (f ∷ fs) = ap (λ rest. placeless_field f ∷ rest) (regrown fs)
 
@@ -64,7 +64,7 @@ either-fields : (b : Bool) (fs : List Field) (found rest : Option (List Field)) 
 either-fields true fs found rest h = refl
 either-fields false fs found rest h = h
 
-structs-placeless : (tag : List ℕ) (items : List Item) → look_up tag (structs (placeless_items items)) ≡ option_map (map placeless_field) (look_up tag (structs items))
+pub structs-placeless : (tag : List ℕ) (items : List Item) → look_up tag (structs (placeless_items items)) ≡ option_map (map placeless_field) (look_up tag (structs items))
 structs-placeless tag [] = refl
 structs-placeless tag (item.Struct s ∷ rest) = rw (regrown s.fields) (either-fields (bytes_eq s.tag tag) s.fields _ _ (structs-placeless tag rest))
 structs-placeless tag (item.Function f ∷ rest) = structs-placeless tag rest
@@ -79,7 +79,7 @@ slots-placeless m items calls others tag name = rw (structs-placeless tag items)
 
 -- ---- functions by name
 
-either-function : (b : Bool) (f : Function) (found rest : Option Function) → found ≡ option_map placeless_function rest
+pub either-function : (b : Bool) (f : Function) (found rest : Option Function) → found ≡ option_map placeless_function rest
     → (if b then Some (placeless_function f) else found) ≡ option_map placeless_function (if b then Some f else rest)
 either-function true f found rest h = refl
 either-function false f found rest h = h
@@ -89,7 +89,7 @@ by-body : (name : List ℕ) (body : Option (List Stmt)) (f : Function) (found re
 by-body name None f found rest h = h
 by-body name (Some body) f found rest h = either-function (bytes_eq f.name name) f (look_up name found) (look_up name rest) h
 
-definitions-placeless : (name : List ℕ) (items : List Item) → look_up name (definitions (placeless_items items)) ≡ option_map placeless_function (look_up name (definitions items))
+pub definitions-placeless : (name : List ℕ) (items : List Item) → look_up name (definitions (placeless_items items)) ≡ option_map placeless_function (look_up name (definitions items))
 definitions-placeless name [] = refl
 definitions-placeless name (item.Struct s ∷ rest) = definitions-placeless name rest
 definitions-placeless name (item.Function f ∷ rest) = by-body name f.body f (definitions (placeless_items rest)) (definitions rest) (definitions-placeless name rest)
