@@ -3,3 +3,4 @@ pub mod TypedNodes
 -- Places do not matter.
 pub mod Unplaced
 pub mod UnplacedExpressions
+pub mod UnplacedFolds
