@@ -1,6 +1,7 @@
 -- What expressions and statements are, by their forms.
 pub mod TypedNodes
 -- Places do not matter.
+pub mod Folding
 pub mod Unplaced
 pub mod UnplacedExpressions
 pub mod UnplacedFolds

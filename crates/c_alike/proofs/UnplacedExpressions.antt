@@ -30,7 +30,7 @@ use Rattle.c_types.specs.ExpressionTypes.{Sort, sort_of, integer_type, number, n
 use Rattle.c_effect.proofs.Placeless.{no_place, grown, all_grown, grown_field, bare_kind, placeless, placeless_field, placeless_function}
 use Rattle.c_effect.proofs.AnywhereCalls.{regrown}
 use Rattle.c_alike.proofs.Unplaced.{unplaced, all_unplaced, found_unplaced, typing_unplaced, called_unplaced, setting_unplaced, both, when-unplaced, typing-ext}
-use Rattle.c_alike.proofs.TypedNodes.{types-Constant, types-Name, types-Null, types-Member, types-Element, types-Call, types-Unary, types-Cast, types-Binary, types-Bracket}
+use Rattle.c_alike.proofs.Folding.{expression-same}
 
 -- ---- what is wanted
 
@@ -167,12 +167,8 @@ call-same s f count wanted p arguments scope =
 
 -- ---- one level, of parts in their places
 
--- an expression of one level, with the fixed place everywhere
-abbrev step_unplaced : ExprKind-F (Place → Typing) Typing → ExprKind-F (Place → Typing) Typing
-step_unplaced z = map-ExprKind (Place → Typing) Typing (Place → Typing) Typing (λ kind p. typing_unplaced (kind no_place)) typing_unplaced z
-
 step-same : (s : Setting) (z : ExprKind-F (Place → Typing) Typing) (p : Place) (wanted : Wanted) (scope : Scope)
-    → kind_step (setting_unplaced s) (step_unplaced z) no_place wanted scope ≡ found_unplaced (kind_step s z p wanted scope)
+    → kind_step (setting_unplaced s) (map-ExprKind (Place → Typing) Typing (Place → Typing) Typing (λ k. k) typing_unplaced z) no_place wanted scope ≡ found_unplaced (kind_step s z p wanted scope)
 step-same s (ExprKind-F.Constant c) p wanted scope = ap (number_found (constant_type s.model c)) (constant-faults (constant_type s.model c) wanted p)
 step-same s (ExprKind-F.Name name) p wanted scope = name-found s.model (type_named name scope) (s.function name) wanted p
 step-same s ExprKind-F.Null p wanted scope = ap (found null_pointer None) (misfits wanted null_pointer p)
@@ -197,52 +193,12 @@ step-same s (ExprKind-F.Bracket x) p wanted scope =
     let a = x anything scope in
     ap (found a.sort a.type) (both _ _ (misfit wanted a.sort p) a.faults (misfits wanted a.sort p) refl)
 
--- ---- by induction
+-- ---- of whole expressions
 
 module _ (s : Setting) where
-  abbrev Same : Expr → Type 0
-  Same e = typing (setting_unplaced s) (placeless e) ≡ typing_unplaced (typing s e)
-
-  abbrev SameKind : ExprKind → Type 0
-  SameKind kind = (p : Place) → typing (setting_unplaced s) (grown (bare_kind kind)) ≡ typing_unplaced (kind_typing s kind p)
-
-  all-same : (args : List ((e : Expr) × Same e))
-      → map (typing (setting_unplaced s)) (all_grown (trees_of (map bare_expression (map (λ e. e.0) args)))) ≡ map typing_unplaced (map (typing s) (map (λ e. e.0) args))
-  all-same [] = refl
-  all-same (a ∷ args) = rw (a.1, all-same args) refl
-
-  unrolls : (z : ExprKind-F ExprKind Expr)
-      → typing (setting_unplaced s) (grown (tree.kind_step (map-ExprKind ExprKind Expr Tree Tree bare_kind bare_expression z)))
-      ≡ kind_step (setting_unplaced s) (step_unplaced (map-ExprKind ExprKind Expr (Place → Typing) Typing (kind_typing s) (typing s) z)) no_place
-      → SameKind (roll-ExprKind z)
-  unrolls z h p = rw (fold-roll-ExprKind (Place → Typing) Typing (kind_step s) expr_step z, fold-roll-ExprKind Tree Tree tree.kind_step tree.expr_step z)
-      (h ∙ typing-ext _ _ (step-same s (map-ExprKind ExprKind Expr (Place → Typing) Typing (kind_typing s) (typing s) z) p))
-
-  kind-same : (y : ExprKind-F ((kind : ExprKind) × SameKind kind) ((e : Expr) × Same e))
-      → SameKind (roll-ExprKind (map-ExprKind ((kind : ExprKind) × SameKind kind) ((e : Expr) × Same e) ExprKind Expr (λ e. e.0) (λ e. e.0) y))
-  kind-same (ExprKind-F.Constant c) = unrolls (ExprKind-F.Constant c) (typing-ext _ _ (types-Constant (setting_unplaced s) no_place c))
-  kind-same (ExprKind-F.Name name) = unrolls (ExprKind-F.Name name) (typing-ext _ _ (types-Name (setting_unplaced s) no_place name))
-  kind-same ExprKind-F.Null = unrolls ExprKind-F.Null (typing-ext _ _ (types-Null (setting_unplaced s) no_place))
-  kind-same (ExprKind-F.Member base field) = unrolls (ExprKind-F.Member base field) (typing-ext _ _ (types-Member (setting_unplaced s) no_place base field))
-  kind-same (ExprKind-F.Element base i) =
-      unrolls (ExprKind-F.Element base i.0) (typing-ext _ _ (types-Element (setting_unplaced s) no_place base (placeless i.0)) ∙ rw (i.1) refl)
-  kind-same (ExprKind-F.Call f args) =
-      unrolls (ExprKind-F.Call f (map (λ e. e.0) args)) (typing-ext _ _ (types-Call (setting_unplaced s) no_place f (all_grown (trees_of (map bare_expression (map (λ e. e.0) args))))) ∙ ap (λ ts. kind_step (setting_unplaced s) (ExprKind-F.Call f ts) no_place) (all-same args))
-  kind-same (ExprKind-F.Unary op a) = unrolls (ExprKind-F.Unary op a.0) (typing-ext _ _ (types-Unary (setting_unplaced s) no_place op (placeless a.0)) ∙ ap (λ t. kind_step (setting_unplaced s) (ExprKind-F.Unary op t) no_place) a.1)
-  kind-same (ExprKind-F.Cast to a) = unrolls (ExprKind-F.Cast to a.0) (typing-ext _ _ (types-Cast (setting_unplaced s) no_place to (placeless a.0)) ∙ ap (λ t. kind_step (setting_unplaced s) (ExprKind-F.Cast to t) no_place) a.1)
-  kind-same (ExprKind-F.Binary op l r) =
-      unrolls (ExprKind-F.Binary op l.0 r.0) (typing-ext _ _ (types-Binary (setting_unplaced s) no_place op (placeless l.0) (placeless r.0))
-      ∙ ap (λ t. kind_step (setting_unplaced s) (ExprKind-F.Binary op t (typing (setting_unplaced s) (placeless r.0))) no_place) l.1
-      ∙ ap (λ t. kind_step (setting_unplaced s) (ExprKind-F.Binary op (typing_unplaced (typing s l.0)) t) no_place) r.1)
-  kind-same (ExprKind-F.Bracket a) = unrolls (ExprKind-F.Bracket a.0) (typing-ext _ _ (types-Bracket (setting_unplaced s) no_place (placeless a.0)) ∙ ap (λ t. kind_step (setting_unplaced s) (ExprKind-F.Bracket t) no_place) a.1)
-
-  expr-unrolls : (z : Expr-F ExprKind Expr) → SameKind z.kind → Same (roll-Expr z)
-  expr-unrolls z each = rw (fold-roll-Expr (Place → Typing) Typing (kind_step s) expr_step z, fold-roll-Expr Tree Tree tree.kind_step tree.expr_step z) (each z.place)
-
   -- an expression, and the same with the fixed place everywhere
-  pub typing-same : (e : Expr) → Same e
-  typing-same = ind-Expr SameKind Same (λ z y is. subst (λ u. SameKind (roll-ExprKind u)) is (kind-same y))
-      (λ z y is. subst (λ u. Same (roll-Expr u)) is (expr-unrolls (map-Expr ((kind : ExprKind) × SameKind kind) ((e : Expr) × Same e) ExprKind Expr (λ e. e.0) (λ e. e.0) y) y.kind.1))
+  pub typing-same : (e : Expr) → typing (setting_unplaced s) (placeless e) ≡ typing_unplaced (typing s e)
+  typing-same = expression-same (Place → Typing) Typing (λ f p. f p) (kind_step s) (kind_step (setting_unplaced s)) typing_unplaced (λ z p. typing-ext _ _ (step-same s z p))
 
   pub integer-same : (e : Expr) (scope : Scope) → integer_value (setting_unplaced s) (placeless e) scope ≡ all_unplaced (integer_value s e scope)
   integer-same e scope = ap (λ (t : Typing). (t an_integer scope).faults) (typing-same e)
