@@ -5,3 +5,5 @@ pub mod Folding
 pub mod Unplaced
 pub mod UnplacedExpressions
 pub mod UnplacedFolds
+pub mod UnplacedStatements
+pub mod UnplacedUnits

@@ -8,7 +8,7 @@ use Rattle.c_tree.specs.declared.item.CType.{CType}
 use Rattle.c_types.specs.TypeFault.{when}
 use Rattle.c_types.specs.Scope.{Declared, Scope}
 use Rattle.c_types.specs.Setting.{Setting}
-use Rattle.c_types.specs.ExpressionTypes.{Found, found, Called, Typing}
+use Rattle.c_types.specs.ExpressionTypes.{Found, found, Called, Typing, Wanted}
 use Rattle.c_types.specs.StatementTypes.{Checks, Checked, CheckedPart, checked}
 use Rattle.c_types.specs.SwitchLabels.{Labels}
 use Rattle.c_effect.proofs.Placeless.{no_place, placeless_field, placeless_function}
@@ -62,5 +62,5 @@ when-unplaced false kind p = refl
 pub checked-ext : (declares : Declared) (f g : Checks) → ((returns : CType) (scope : Scope) → f returns scope ≡ g returns scope) → checked declares f ≡ checked declares g
 checked-ext declares f g h = λ i. checked declares (λ returns scope. h returns scope i)
 
-pub typing-ext : (f g : Typing) → ((wanted : _) (scope : Scope) → f wanted scope ≡ g wanted scope) → f ≡ g
+pub typing-ext : (f g : Typing) → ((wanted : Wanted) (scope : Scope) → f wanted scope ≡ g wanted scope) → f ≡ g
 typing-ext f g h = λ i. λ wanted scope. h wanted scope i
