@@ -7,3 +7,6 @@ pub mod UnplacedExpressions
 pub mod UnplacedFolds
 pub mod UnplacedStatements
 pub mod UnplacedUnits
+-- Forms without a fault, one step each.
+pub mod TypedExpressions
+pub mod TypedStatements
