@@ -10,3 +10,4 @@ pub mod UnplacedUnits
 -- Forms without a fault, one step each.
 pub mod TypedExpressions
 pub mod TypedStatements
+pub mod TypedUnits

@@ -41,7 +41,7 @@ use Rattle.c_effect.proofs.Equations.{node, stmt}
 use Rattle.c_alike.proofs.TypedNodes.{types-Name, checks-Declare, checks-Assign, checks-CallStatement, checks-Discard, checks-Empty, checks-Block, checks-If, checks-IfElse, checks-Return, checks-Break, checks-Switch, checks-Label, checks-Statement}
 use Rattle.c_alike.proofs.TypedExpressions.{IsNumber, AllNumbers, MayCall, found-call, typed-name, typed-element, typed-member}
 
-none-both : (a b : List Refusal) → a ≡ [] → b ≡ [] → a ++ b ≡ []
+pub none-both : (a b : List Refusal) → a ≡ [] → b ≡ [] → a ++ b ≡ []
 none-both a b h g = rw (h, g) refl
 
 module _ (s : Setting) (returns : CType) where
