@@ -1,0 +1,2 @@
+-- What the promises rest on.
+pub mod HelperList
