@@ -1,5 +1,6 @@
 -- What expressions and statements are, by their forms.
 pub mod TypedNodes
+pub mod CallsNodes
 -- Places do not matter.
 pub mod Folding
 pub mod Unplaced
