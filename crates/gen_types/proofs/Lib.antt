@@ -1,1 +1,4 @@
+-- Helpers have no fault, and may be called.
 pub mod HelperTypes
+pub mod HelperCalls
+pub mod HelperNames
