@@ -1,5 +1,5 @@
 -- Which forms of expressions and of statements call, one level at a time (ISO/IEC 9899:1999, 6.5.2.2).
-use Rattle.std.proofs.Common.{◌≡◌, ℕ, Bool, true, false, ◌||◌, List, map, Option, Some, None, refl, sym, ap, ◌∙◌}
+use Rattle.std.proofs.Common.{◌≡◌, ℕ, Bool, true, false, ◌||◌, List, map, Option, Some, None, sym, ap, ◌∙◌}
 use Rattle.c_text.specs.declared.place.Place.{Place}
 use Rattle.c_text.specs.declared.token.Constant.{Constant}
 use Rattle.c_text.specs.declared.token.Spelled.{Spelled}

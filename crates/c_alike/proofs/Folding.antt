@@ -1,5 +1,5 @@
 -- A meaning of trees by their forms, one level at a time: where it is the same with the fixed place at each level, it is so of whole trees.
-use Rattle.std.proofs.Common.{◌≡◌, ℕ, List, [], ◌∷◌, map, Option, Some, None, option_map, refl, sym, ap, subst, ◌∙◌}
+use Rattle.std.proofs.Common.{◌≡◌, List, [], ◌∷◌, map, Some, None, option_map, refl, sym, ap, subst, ◌∙◌}
 use Rattle.c_text.specs.declared.place.Place.{Place}
 use Rattle.c_tree.specs.declared.expression.Expr.{Expr, Expr-F, fold-Expr, fold_out-Expr, ind-Expr, fold-roll-Expr, roll-Expr, map-Expr}
 use Rattle.c_tree.specs.declared.expression.ExprKind.{ExprKind, fold-ExprKind, fold-roll-ExprKind, roll-ExprKind, map-ExprKind}
@@ -16,7 +16,7 @@ use Rattle.c_tree.specs.BareExpression.{Tree, trees_of, bare_expression}
 use Rattle.c_tree.specs.BareStatement as a
 use Rattle.c_tree.specs.BareStatement.{Action, Parts, BarePart, bare_statement}
 use Rattle.c_effect.proofs.Equations.{node, stmt}
-use Rattle.c_effect.proofs.Placeless.{no_place, grown, all_grown, grown_option, grown_stmt, grown_list, grown_parts, grown_part, bare_kind, bare_stmt_kind, bare_part, placeless, placeless_option, placeless_stmt}
+use Rattle.c_effect.proofs.Placeless.{no_place, grown, all_grown, grown_stmt, grown_list, grown_parts, grown_part, bare_kind, bare_stmt_kind, bare_part, placeless, placeless_option, placeless_stmt}
 
 -- ---- expressions: at a place by `at`, and `u` of a meaning is that with the fixed place
 

@@ -1,5 +1,5 @@
 -- What each form of expressions is for the types, without a fault (ISO/IEC 9899:1999, the constraints of 6.5), from what is declared and what its operands are: one step each.
-use Rattle.std.proofs.Common.{◌≡◌, ℕ, ◌<◌, ◌^◌, Bool, true, false, not, ◌&&◌, ◌==◌, List, [], ◌∷◌, ◌++◌, map, length, Option, Some, None, refl, sym, ap, ap₂, ◌∙◌, pos}
+use Rattle.std.proofs.Common.{◌≡◌, ℕ, ◌<◌, ◌^◌, Bool, true, false, not, ◌&&◌, ◌==◌, List, [], ◌∷◌, ◌++◌, length, Some, None, refl, sym, ap, ap₂, ◌∙◌}
 use Rattle.std.specs.Prelude.{⊤}
 use Rattle.std.proofs.lemmas.Bool.Decides.{nat_tests}
 use Rattle.std.proofs.Common.{arith, append-nil}
@@ -9,7 +9,6 @@ use Rattle.c_text.specs.declared.token.Constant.{Constant}
 use Rattle.c_text.specs.declared.token.IntType.{IntType}
 use Rattle.c_text.specs.declared.token.IntType.TheVariants as t
 use Rattle.c_text.specs.declared.token.Spelled.{Spelled}
-use Rattle.c_text.specs.Refusal.{Refusal}
 use Rattle.c_tree.specs.declared.expression.BinaryOp.{BinaryOp}
 use Rattle.c_tree.specs.declared.expression.BinaryOp.TheVariants as o
 use Rattle.c_tree.specs.declared.expression.Callee.TheVariants.{Name}
@@ -18,7 +17,7 @@ use Rattle.c_tree.specs.declared.expression.ExprKind.TheOpen.{ExprKind-F}
 use Rattle.c_tree.specs.declared.expression.ExprKind.TheVariants as k
 use Rattle.c_tree.specs.declared.expression.UnaryOp.{UnaryOp}
 use Rattle.c_tree.specs.declared.item.CType.{CType}
-use Rattle.c_tree.specs.declared.item.CType.TheVariants.{Void, Integer, Pointer}
+use Rattle.c_tree.specs.declared.item.CType.TheVariants.{Integer, Pointer}
 use Rattle.c_tree.specs.declared.item.Field.{Field}
 use Rattle.c_tree.specs.declared.item.Function.{Function}
 use Rattle.c_tree.specs.declared.item.Target.{Target}
@@ -26,15 +25,12 @@ use Rattle.c_tree.specs.declared.item.Target.TheVariants.{Byte, Struct}
 use Rattle.cg_out.specs.Words.{look_up}
 use Rattle.c_widths.specs.DataModel.{DataModel}
 use Rattle.c_widths.specs.IntegerType.{type_of}
-use Rattle.c_widths.specs.Promotion.{promote}
-use Rattle.c_widths.specs.CommonType.{common_promoted}
 use Rattle.c_widths.specs.ConstantType.{constant_type}
 use Rattle.c_operators.proofs.Models.{IsOneOf}
 use Rattle.c_operators.proofs.Numbers.{holds-fits, fits-Int, fits-UnsignedInt}
-use Rattle.c_types.specs.TypeFault.{when}
 use Rattle.c_types.specs.Scope.{Scope, type_named}
 use Rattle.c_types.specs.Setting.{Setting, declared_by}
-use Rattle.c_types.specs.ExpressionTypes.{Sort, sort_of, Typing, number_misfit, compares_pointer, binary_found, operand_wanted, kind_step, Found, found, number, null_pointer, byte_pointer, struct_pointer, number_found, an_integer, anything, a_byte_pointer, Wanted, unary_type, binary_type, takes_pointer, result_sort, integer_type, is_equality, typing, all_arguments, call_found, callee_found, called, misfit}
+use Rattle.c_types.specs.ExpressionTypes.{Sort, sort_of, Typing, number_misfit, compares_pointer, binary_found, operand_wanted, kind_step, found, null_pointer, number_found, an_integer, anything, Wanted, unary_type, binary_type, takes_pointer, result_sort, integer_type, is_equality, typing, all_arguments, call_found, callee_found, called, misfit}
 use Rattle.c_effect.proofs.Equations.{node}
 use Rattle.c_alike.proofs.TypedNodes.{types-Constant, types-Name, types-Null, types-Member, types-Element, types-Call, types-Unary, types-Cast, types-Binary, types-Bracket}
 
@@ -163,8 +159,8 @@ module _ (s : Setting) (scope : Scope) where
       → IsNumber (node p (k.Binary o.Equal (node q (k.Name name)) (node r k.Null))) t.Int
   typed-null_test p q r name target constant h =
       let at : (wanted : Wanted) → number_misfit wanted p ≡ [] → typing s (node p (k.Binary o.Equal (node q (k.Name name)) (node r k.Null))) wanted scope ≡ number_found (Some t.Int) [] = λ wanted fits.
-          types-Binary s p o.Equal _ _ wanted scope
-          ∙ tests-null (typing s (node q (k.Name name))) (typing s (node r k.Null)) p wanted (sort_of (Pointer target constant)) (pointer-compares target constant) (pointer-named q name target constant h) (null-found r) fits in
+      types-Binary s p o.Equal _ _ wanted scope
+      ∙ tests-null (typing s (node q (k.Name name))) (typing s (node r k.Null)) p wanted (sort_of (Pointer target constant)) (pointer-compares target constant) (pointer-named q name target constant h) (null-found r) fits in
       record { wanted = at an_integer refl; plain = at anything refl }
 
   -- ---- calls (6.5.2.2)

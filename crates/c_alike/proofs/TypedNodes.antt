@@ -1,5 +1,5 @@
 -- What each form of expressions, of statements and of parts of a switch is for the types, one level at a time (ISO/IEC 9899:1999, 6.5 and 6.8).
-use Rattle.std.proofs.Common.{◌≡◌, ℕ, List, map, Option, Some, None, refl, sym, ap, ◌∙◌}
+use Rattle.std.proofs.Common.{◌≡◌, ℕ, List, map, Option, Some, None, sym, ap, ◌∙◌}
 use Rattle.c_text.specs.declared.place.Place.{Place}
 use Rattle.c_text.specs.declared.token.Constant.{Constant}
 use Rattle.c_text.specs.declared.token.Spelled.{Spelled}
@@ -15,7 +15,7 @@ use Rattle.c_tree.specs.declared.statement.Stmt.{Stmt, fold_out-Stmt}
 use Rattle.c_tree.specs.declared.statement.StmtKind.{StmtKind, map-StmtKind, roll-StmtKind, fold-roll-StmtKind}
 use Rattle.c_tree.specs.declared.statement.StmtKind.TheOpen.{StmtKind-F}
 use Rattle.c_tree.specs.declared.statement.StmtKind.TheVariants as t
-use Rattle.c_tree.specs.declared.statement.SwitchPart.{SwitchPart, SwitchPart-F, map-SwitchPart, fold-roll-SwitchPart}
+use Rattle.c_tree.specs.declared.statement.SwitchPart.{SwitchPart, SwitchPart-F, fold-roll-SwitchPart}
 use Rattle.c_tree.specs.declared.statement.SwitchPart.TheVariants as p
 use Rattle.c_types.specs.Scope.{Scope}
 use Rattle.c_types.specs.Setting.{Setting}

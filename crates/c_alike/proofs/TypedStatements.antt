@@ -1,11 +1,10 @@
 -- Statements without a fault (ISO/IEC 9899:1999, the constraints of 6.5.16, 6.7 and 6.8), from what is declared and what their parts are: one step each.
-use Rattle.std.proofs.Common.{◌≡◌, ℕ, Bool, true, false, List, [], ◌∷◌, ◌++◌, map, length, Option, Some, None, refl, sym, ap, ◌∙◌, ℤ, pos, append-nil}
+use Rattle.std.proofs.Common.{◌≡◌, ℕ, true, false, List, [], ◌∷◌, ◌++◌, map, length, Option, Some, None, refl, sym, ap, ◌∙◌, ℤ, pos, append-nil}
 use Rattle.std.specs.List.{list_any}
 use Rattle.std.specs.Ordering.{int_eq}
 use Rattle.c_text.specs.declared.place.Place.{Place}
 use Rattle.c_text.specs.declared.token.Constant.{Constant}
 use Rattle.c_text.specs.declared.token.IntType.{IntType}
-use Rattle.c_text.specs.declared.token.IntType.TheVariants as i
 use Rattle.c_text.specs.declared.token.Spelled.{Spelled}
 use Rattle.c_text.specs.Refusal.{Refusal}
 use Rattle.c_tree.specs.declared.expression.Callee.TheVariants.{Name, Memset}
@@ -14,9 +13,8 @@ use Rattle.c_tree.specs.declared.expression.ExprKind.{ExprKind, fold-ExprKind, o
 use Rattle.c_tree.specs.declared.expression.ExprKind.TheOpen.{ExprKind-F}
 use Rattle.c_tree.specs.declared.expression.ExprKind.TheVariants as k
 use Rattle.c_tree.specs.declared.item.CType.{CType}
-use Rattle.c_tree.specs.declared.item.CType.TheVariants.{Void, Integer, Pointer}
+use Rattle.c_tree.specs.declared.item.CType.TheVariants.{Integer, Pointer}
 use Rattle.c_tree.specs.declared.item.Field.{Field}
-use Rattle.c_tree.specs.declared.item.Target.{Target}
 use Rattle.c_tree.specs.declared.item.Target.TheVariants.{Byte, Struct}
 use Rattle.c_tree.specs.declared.statement.AssignOp.{AssignOp}
 use Rattle.c_tree.specs.declared.statement.Stmt.{Stmt}
@@ -25,18 +23,16 @@ use Rattle.c_tree.specs.declared.statement.SwitchPart.{SwitchPart}
 use Rattle.c_tree.specs.declared.statement.SwitchPart.TheVariants as p
 use Rattle.cg_out.specs.Words.{look_up}
 use Rattle.c_widths.specs.DataModel.{DataModel}
-use Rattle.c_widths.specs.IntegerType.{type_of}
 use Rattle.c_widths.specs.Promotion.{promote}
-use Rattle.c_widths.specs.Conversion.{convert}
 use Rattle.c_widths.specs.ConstantType.{constant_type}
 use Rattle.c_operators.proofs.Numbers.{Fits, convert-fits}
 use Rattle.c_text.specs.declared.refusal.CKind.TheVariants.{ConstWrite}
 use Rattle.c_types.specs.TypeFault.{when}
 use Rattle.c_types.specs.Scope.{Declared, Scope, type_named, behind, opened, is_reserved}
 use Rattle.c_types.specs.Setting.{Setting, declared_by}
-use Rattle.c_types.specs.ExpressionTypes.{anything, an_integer, a_byte_pointer, found, byte_pointer, result_sort, integer_type, promoted, typing, integer_value}
-use Rattle.c_types.specs.SwitchLabels.{Labels, no_labels, with_label, case_value, value_in, value_kind_step, value_expr_step, Typed}
-use Rattle.c_types.specs.StatementTypes.{Checked, in_order, parts_in_order, writes_const, return_faults, statement, statements, part, parts, gives_value}
+use Rattle.c_types.specs.ExpressionTypes.{anything, a_byte_pointer, promoted, integer_value}
+use Rattle.c_types.specs.SwitchLabels.{Labels, no_labels, case_value, value_in, value_kind_step, value_expr_step, Typed}
+use Rattle.c_types.specs.StatementTypes.{parts_in_order, writes_const, return_faults, statement, statements, part, parts, gives_value}
 use Rattle.c_effect.proofs.Equations.{node, stmt}
 use Rattle.c_alike.proofs.TypedNodes.{types-Name, checks-Declare, checks-Assign, checks-CallStatement, checks-Discard, checks-Empty, checks-Block, checks-If, checks-IfElse, checks-Return, checks-Break, checks-Switch, checks-Label, checks-Statement}
 use Rattle.c_alike.proofs.TypedExpressions.{IsNumber, AllNumbers, MayCall, found-call, typed-name, typed-element, typed-member}
@@ -87,7 +83,7 @@ module _ (s : Setting) (returns : CType) where
       → IsTyped scope (stmt p (t.Assign target op value)) []
   typed-assign scope p target value op a b h free g = record {
     declares_is = ap (λ c. c.declares) (checks-Assign s p target op value);
-    no_fault = ap (λ c. c.faults returns scope) (checks-Assign s p target op value) 
+    no_fault = ap (λ c. c.faults returns scope) (checks-Assign s p target op value)
         ∙ none-both _ _ (no-fault scope target a h) (none-both _ _ (ap (λ b. when b ConstWrite p) free) (no-fault scope value b g));
   }
 
@@ -161,7 +157,7 @@ module _ (s : Setting) (returns : CType) where
       → IsTyped scope (stmt p (t.If condition taken (Some other))) []
   typed-if_else scope p condition taken other type h g e = record {
     declares_is = ap (λ c. c.declares) (checks-IfElse s p condition taken other) ∙ rw (g.declares_is, e.declares_is) refl;
-    no_fault = ap (λ c. c.faults returns scope) (checks-IfElse s p condition taken other) 
+    no_fault = ap (λ c. c.faults returns scope) (checks-IfElse s p condition taken other)
         ∙ none-both _ _ (no-fault scope condition type h) (none-both _ _ (g.no_fault) (rw (g.declares_is) (e.no_fault)));
   }
 
@@ -213,7 +209,7 @@ module _ (s : Setting) (returns : CType) where
       → IsTyped scope (stmt p (t.Switch value list)) []
   typed-switch scope p value type list h r = record {
     declares_is = ap (λ c. c.declares) (checks-Switch s p value list);
-    no_fault = ap (λ c. c.faults returns scope) (checks-Switch s p value list) 
+    no_fault = ap (λ c. c.faults returns scope) (checks-Switch s p value list)
         ∙ none-both _ _ (no-fault scope value type h) (ap (λ of_switch. parts_in_order (map (part s) list) of_switch no_labels returns (opened scope)) (ap (λ f. promoted s.model f.type) h.wanted) ∙ r.no_faults);
   }
 
@@ -227,6 +223,6 @@ pub case-number : (m : DataModel) (q : Place) (c : Constant) (own type : IntType
     → value_in m (Some type) (case_value m (node q (k.Constant c))) ≡ Some (pos c.value)
 case-number m q c own type h fits =
     let is : case_value m (node q (k.Constant c)) ≡ Some (record { type = own; value = pos c.value }) =
-        fold_out-Expr (Option Typed) (Option Typed) (value_kind_step m) value_expr_step (node q (k.Constant c))
-        ∙ ap (kind_value m) (sym (k.rolls-Constant c)) ∙ fold-roll-ExprKind (Option Typed) (Option Typed) (value_kind_step m) value_expr_step (ExprKind-F.Constant c) ∙ rw h refl in
+    fold_out-Expr (Option Typed) (Option Typed) (value_kind_step m) value_expr_step (node q (k.Constant c))
+    ∙ ap (kind_value m) (sym (k.rolls-Constant c)) ∙ fold-roll-ExprKind (Option Typed) (Option Typed) (value_kind_step m) value_expr_step (ExprKind-F.Constant c) ∙ rw h refl in
     rw (is, convert-fits m type c.value fits) refl

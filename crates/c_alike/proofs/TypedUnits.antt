@@ -1,8 +1,7 @@
 -- Fields, items and units without a fault (ISO/IEC 9899:1999, the constraints of 6.7.2.1, 6.7.5.3 and 6.9), from what stands before them: one step each.
-use Rattle.std.proofs.Common.{◌≡◌, ℕ, Bool, true, false, not, ◌&&◌, ◌||◌, ◌==◌, List, [], ◌∷◌, ◌++◌, map, Option, Some, None, is_some, bytes_eq, refl, sym, ap, ◌∙◌, append_assoc, append-nil, arith}
+use Rattle.std.proofs.Common.{◌≡◌, ℕ, Bool, true, false, ◌&&◌, ◌==◌, List, [], ◌∷◌, ◌++◌, map, Some, None, is_some, refl, sym, ap, ◌∙◌, append_assoc, append-nil, arith}
 use Rattle.std.specs.List.{AllByRecursion}
 use Rattle.std.proofs.lemmas.Bool.Decides.{nat_tests}
-use Rattle.c_text.specs.declared.refusal.CKind.TheVariants.{UnknownName, Redeclared, ReservedName}
 use Rattle.c_text.specs.declared.token.Spelled.{Spelled}
 use Rattle.c_text.specs.declared.token.Spelled.TheVariants.{Exact, Size, Plain}
 use Rattle.c_text.specs.MacroDefinition.{same_spelled}
@@ -20,11 +19,10 @@ use Rattle.c_tree.specs.declared.statement.Stmt.{Stmt}
 use Rattle.c_tree.specs.BareUnit.{BareItem, bare_field, bare_head, bare_unit}
 use Rattle.cg_out.specs.Words.{look_up, same_bool}
 use Rattle.c_widths.specs.DataModel.{DataModel}
-use Rattle.c_types.specs.TypeFault.{when}
-use Rattle.c_types.specs.Scope.{Declared, is_reserved, name_faults}
+use Rattle.c_types.specs.Scope.{Declared, is_reserved}
 use Rattle.c_types.specs.Setting.{Setting, setting, declared_by, structs, functions, definition, definitions, calling, callings}
 use Rattle.c_types.specs.ExpressionTypes.{tag_of}
-use Rattle.c_types.specs.UnitTypes.{lacks_tag, field_faults, fields_in_order, same_type, same_fields, same_head, body_faults, head_faults, struct_faults, item_faults, items_in_order, unit_faults, faults_under}
+use Rattle.c_types.specs.UnitTypes.{lacks_tag, fields_in_order, same_type, same_fields, same_head, head_faults, struct_faults, item_faults, items_in_order, unit_faults, faults_under}
 use Rattle.c_effect.proofs.Placeless.{grown_item}
 use Rattle.c_effect.proofs.BareGrown.{bare-grown_items}
 use Rattle.c_effect.proofs.Locals.{same-name}

@@ -1,5 +1,5 @@
 -- Faults with one fixed place everywhere, and the settings of trees with that place.
-use Rattle.std.proofs.Common.{◌≡◌, ℕ, Bool, true, false, List, [], ◌∷◌, ◌++◌, map, Option, Some, None, option_map, refl, sym, ap, ◌∙◌}
+use Rattle.std.proofs.Common.{◌≡◌, Bool, true, false, List, ◌++◌, map, option_map, refl}
 use Rattle.std.proofs.lemmas.List.{map-append}
 use Rattle.c_text.specs.declared.place.Place.{Place}
 use Rattle.c_text.specs.declared.refusal.CKind.{CKind}
@@ -10,7 +10,6 @@ use Rattle.c_types.specs.Scope.{Declared, Scope}
 use Rattle.c_types.specs.Setting.{Setting}
 use Rattle.c_types.specs.ExpressionTypes.{Found, found, Called, Typing, Wanted}
 use Rattle.c_types.specs.StatementTypes.{Checks, Checked, CheckedPart, checked}
-use Rattle.c_types.specs.SwitchLabels.{Labels}
 use Rattle.c_effect.proofs.Placeless.{no_place, placeless_field, placeless_function}
 
 abbrev pub unplaced : Refusal → Refusal

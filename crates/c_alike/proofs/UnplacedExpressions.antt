@@ -1,33 +1,30 @@
 -- The types and the faults of an expression do not hang on its places, but for the places of the faults.
-use Rattle.std.proofs.Common.{◌≡◌, ℕ, Bool, true, false, List, [], ◌∷◌, ◌++◌, map, length, Option, Some, None, option_map, refl, sym, ap, subst, ◌∙◌}
+use Rattle.std.proofs.Common.{◌≡◌, ℕ, Bool, List, [], ◌∷◌, ◌++◌, map, length, Option, Some, None, option_map, refl, ap, ◌∙◌}
 use Rattle.std.specs.Prelude.{not, ◌==◌}
 use Rattle.std.proofs.lemmas.List.{map-append, length-map}
 use Rattle.c_text.specs.declared.place.Place.{Place}
 use Rattle.c_text.specs.declared.refusal.CKind.TheVariants.{TypeMismatch, ImpureCall, DeepCall}
 use Rattle.c_text.specs.declared.token.IntType.{IntType}
 use Rattle.c_text.specs.Refusal.{Refusal}
-use Rattle.c_tree.specs.declared.expression.BinaryOp.{BinaryOp}
 use Rattle.c_tree.specs.declared.expression.Callee.{Callee}
 use Rattle.c_tree.specs.declared.expression.Callee.TheVariants.{Name, Memset}
-use Rattle.c_tree.specs.declared.expression.Expr.{Expr, Expr-F, ind-Expr, fold-roll-Expr, roll-Expr, map-Expr}
-use Rattle.c_tree.specs.declared.expression.ExprKind.{ExprKind, fold-roll-ExprKind, roll-ExprKind, map-ExprKind}
+use Rattle.c_tree.specs.declared.expression.Expr.{Expr}
+use Rattle.c_tree.specs.declared.expression.ExprKind.{map-ExprKind}
 use Rattle.c_tree.specs.declared.expression.ExprKind.TheOpen.{ExprKind-F}
 use Rattle.c_tree.specs.declared.item.CType.{CType}
 use Rattle.c_tree.specs.declared.item.CType.TheVariants.{Void, Integer, Pointer}
 use Rattle.c_tree.specs.declared.item.Field.{Field}
 use Rattle.c_tree.specs.declared.item.Function.{Function}
 use Rattle.c_tree.specs.declared.item.Target.TheVariants.{Byte, Struct}
-use Rattle.c_tree.specs.BareExpression as tree
-use Rattle.c_tree.specs.BareExpression.{Tree, trees_of, bare_expression}
-use Rattle.c_tree.specs.BareUnit.{bare_field}
+use Rattle.c_tree.specs.BareExpression.{trees_of, bare_expression}
 use Rattle.cg_out.specs.Words.{look_up}
 use Rattle.c_widths.specs.DataModel.{DataModel}
 use Rattle.c_widths.specs.ConstantType.{constant_type}
 use Rattle.c_types.specs.Scope.{Scope, type_named}
 use Rattle.c_types.specs.Setting.{Setting, declared_by}
 use Rattle.c_types.specs.TypeFault.{when}
-use Rattle.c_types.specs.ExpressionTypes.{Sort, sort_of, integer_type, number, null_pointer, byte_pointer, struct_pointer, void_value, function_name, Found, found, number_found, Wanted, an_integer, anything, a_byte_pointer, Typing, Called, integer_faults, name_misfit, misfit, number_misfit, constant_faults, name_found, no_local, bytes_faults, element_faults, tag_of, unknown_field, type_among, faults_among, tagged_type, tagged_faults, member_type, member_faults, takes_pointer, is_pointer_type, declared_call, named_call, called, callee_found, argument_faults, call_found, compares_pointer, operand_wanted, binary_found, kind_step, expr_step, typing, kind_typing, integer_value, all_arguments}
-use Rattle.c_effect.proofs.Placeless.{no_place, grown, all_grown, grown_field, bare_kind, placeless, placeless_field, placeless_function}
+use Rattle.c_types.specs.ExpressionTypes.{Sort, sort_of, integer_type, number, null_pointer, byte_pointer, struct_pointer, void_value, function_name, found, number_found, Wanted, an_integer, anything, a_byte_pointer, Typing, Called, integer_faults, name_misfit, misfit, number_misfit, constant_faults, name_found, no_local, bytes_faults, element_faults, tag_of, unknown_field, type_among, faults_among, tagged_type, tagged_faults, member_type, member_faults, takes_pointer, declared_call, named_call, called, callee_found, argument_faults, call_found, compares_pointer, operand_wanted, kind_step, typing, integer_value, all_arguments}
+use Rattle.c_effect.proofs.Placeless.{no_place, all_grown, placeless, placeless_field, placeless_function}
 use Rattle.c_effect.proofs.AnywhereCalls.{regrown}
 use Rattle.c_alike.proofs.Unplaced.{unplaced, all_unplaced, found_unplaced, typing_unplaced, called_unplaced, setting_unplaced, both, when-unplaced, typing-ext}
 use Rattle.c_alike.proofs.Folding.{expression-same}

@@ -1,20 +1,17 @@
 -- The value of a case and whether a function calls do not hang on places.
-use Rattle.std.proofs.Common.{◌≡◌, ℕ, Bool, true, false, ◌||◌, List, [], ◌∷◌, map, Option, Some, None, option_map, refl, sym, ap, subst, ◌∙◌, map-id}
-use Rattle.c_tree.specs.declared.expression.Expr.{Expr, Expr-F, fold-Expr, fold_out-Expr, ind-Expr, fold-roll-Expr, roll-Expr, map-Expr}
-use Rattle.c_tree.specs.declared.expression.ExprKind.{ExprKind, fold-ExprKind, fold-roll-ExprKind, roll-ExprKind, map-ExprKind}
+use Rattle.std.proofs.Common.{◌≡◌, Bool, List, map, Option, Some, None, option_map, refl, ap, ◌∙◌, map-id}
+use Rattle.c_tree.specs.declared.expression.Expr.{Expr, fold-Expr}
+use Rattle.c_tree.specs.declared.expression.ExprKind.{map-ExprKind}
 use Rattle.c_tree.specs.declared.expression.ExprKind.TheOpen.{ExprKind-F}
-use Rattle.c_tree.specs.declared.expression.ExprKind.TheVariants as k
 use Rattle.c_tree.specs.declared.statement.Stmt.{Stmt}
 use Rattle.c_tree.specs.declared.statement.StmtKind.TheOpen.{StmtKind-F}
 use Rattle.c_tree.specs.declared.statement.SwitchPart.{SwitchPart-F}
 use Rattle.c_tree.specs.BareStatement.{actions_of, bare_statement}
-use Rattle.c_tree.specs.BareExpression.{Tree, trees_of, bare_expression}
-use Rattle.c_text.specs.declared.place.Place.{Place}
 use Rattle.c_widths.specs.DataModel.{DataModel}
 use Rattle.c_types.specs.SwitchLabels.{Typed, case_value, value_kind_step}
 use Rattle.c_types.specs.Calling.{some_true, calls_kind_step, expression_calls, value_calls, branch_calls, calls_action_step, calls_part_step, statement_calls, statements_call}
-use Rattle.c_effect.proofs.Placeless.{all_grown, grown_list, placeless, placeless_option, placeless_stmt}
-use Rattle.c_alike.proofs.Folding.{expression-same, level_placed, part_placed, statement-same, statements-same}
+use Rattle.c_effect.proofs.Placeless.{grown_list, placeless, placeless_option}
+use Rattle.c_alike.proofs.Folding.{expression-same, level_placed, part_placed, statements-same}
 
 -- a meaning of expressions by their forms alone does not see places
 module _ (A : Type 0) (step : ExprKind-F A A → A) where

@@ -1,10 +1,9 @@
 -- The faults of a statement do not hang on its places, but for the places of the faults.
-use Rattle.std.proofs.Common.{◌≡◌, ℕ, Bool, true, false, not, ◌==◌, List, [], ◌∷◌, ◌++◌, map, length, Option, Some, None, option_map, refl, sym, ap, ◌∙◌}
+use Rattle.std.proofs.Common.{◌≡◌, ℕ, Bool, true, false, not, ◌==◌, List, [], ◌∷◌, ◌++◌, map, length, Option, Some, None, option_map, refl, ap, ◌∙◌}
 use Rattle.c_text.specs.declared.place.Place.{Place}
 use Rattle.c_text.specs.declared.refusal.CKind.TheVariants.{Redeclared, ReservedName, TypeMismatch, ConstWrite, DuplicateCase}
 use Rattle.c_text.specs.declared.token.IntType.{IntType}
 use Rattle.c_text.specs.declared.token.Spelled.{Spelled}
-use Rattle.c_text.specs.Refusal.{Refusal}
 use Rattle.c_tree.specs.declared.expression.Callee.{Callee}
 use Rattle.c_tree.specs.declared.expression.Callee.TheVariants.{Name, Memset}
 use Rattle.c_tree.specs.declared.expression.Expr.{Expr, fold_out-Expr}
@@ -21,16 +20,15 @@ use Rattle.c_tree.specs.BareExpression as tree
 use Rattle.c_tree.specs.BareExpression.{Tree, trees_of, bare_expression}
 use Rattle.c_tree.specs.BareStatement.{actions_of, bare_statement}
 use Rattle.cg_out.specs.Words.{look_up}
-use Rattle.c_widths.specs.DataModel.{DataModel}
 use Rattle.std.specs.Prelude.{is_some}
 use Rattle.c_types.specs.TypeFault.{when}
 use Rattle.c_types.specs.Scope.{Declared, Scope, type_named, behind, opened, is_reserved, name_faults}
 use Rattle.c_types.specs.Setting.{Setting}
 use Rattle.c_types.specs.ExpressionTypes.{Typing, Wanted, an_integer, anything, a_byte_pointer, promoted, mismatch, typing, integer_value, all_arguments}
 use Rattle.c_types.specs.SwitchLabels.{Labels, no_labels, label_faults, with_label, with_number, case_value, value_in, repeated_number}
-use Rattle.c_types.specs.StatementTypes.{Checks, Checked, CheckedPart, checked, in_order, optional_value, declaration_faults, writes_const, store_faults, names_const, sets_const, memset_arguments, memset_faults, call_faults, discard_faults, gives_value, return_faults, else_declares, else_faults, parts_in_order, switch_type, kind_step, part_step, statement, statements}
+use Rattle.c_types.specs.StatementTypes.{Checks, Checked, CheckedPart, in_order, optional_value, declaration_faults, writes_const, store_faults, names_const, sets_const, memset_arguments, call_faults, discard_faults, gives_value, return_faults, parts_in_order, switch_type, kind_step, part_step, statement, statements}
 use Rattle.c_effect.proofs.Placeless.{no_place, grown, all_grown, grown_list, bare_kind, placeless, placeless_option, placeless_function}
-use Rattle.c_alike.proofs.Unplaced.{all_unplaced, typing_unplaced, checked_unplaced, part_unplaced, setting_unplaced, both, when-unplaced, checked-ext}
+use Rattle.c_alike.proofs.Unplaced.{all_unplaced, checked_unplaced, part_unplaced, setting_unplaced, both, when-unplaced, checked-ext}
 use Rattle.c_alike.proofs.Folding.{level_placed, part_placed, statements-same}
 use Rattle.c_alike.proofs.UnplacedExpressions.{no_local-same, call-same, typing-same, integer-same, arguments-anywhere}
 use Rattle.c_alike.proofs.UnplacedFolds.{case_value-same}

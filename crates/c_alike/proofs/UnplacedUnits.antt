@@ -1,8 +1,6 @@
 -- Whether a unit has a fault of types, and of which kinds, does not hang on its places.
-use Rattle.std.proofs.Common.{◌≡◌, ℕ, Bool, true, false, not, ◌&&◌, ◌||◌, List, [], ◌∷◌, ◌++◌, map, Option, Some, None, option_map, is_some, refl, sym, ap, ◌∙◌}
+use Rattle.std.proofs.Common.{◌≡◌, ℕ, not, List, [], ◌∷◌, ◌++◌, map, Option, Some, None, option_map, is_some, refl, sym, ap, ◌∙◌}
 use Rattle.std.proofs.lemmas.List.{map-append}
-use Rattle.c_text.specs.declared.place.Place.{Place}
-use Rattle.c_text.specs.declared.refusal.CKind.{CKind}
 use Rattle.c_text.specs.declared.refusal.CKind.TheVariants.{UnknownName, Redeclared, ReservedName}
 use Rattle.c_text.specs.Refusal.{Refusal}
 use Rattle.c_tree.specs.declared.item.CType.{CType}

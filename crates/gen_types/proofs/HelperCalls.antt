@@ -1,6 +1,6 @@
 -- Calls of helpers are numbers without a fault, in the bodies of a unit that the helpers stand first in.
-use Rattle.std.proofs.Common.{◌≡◌, ℕ, Bool, true, false, ◌||◌, List, [], ◌∷◌, ◌++◌, map, Option, Some, None, refl, sym, ap, subst, ◌∙◌, inl, inr}
-use Rattle.std.specs.Prelude.{⊤, ◌⊎◌, codes, bytes_eq}
+use Rattle.std.proofs.Common.{◌≡◌, ℕ, Bool, false, List, [], ◌∷◌, ◌++◌, Some, None, refl, ap, subst, ◌∙◌, inl, inr}
+use Rattle.std.specs.Prelude.{◌⊎◌, codes, bytes_eq}
 use Rattle.c_text.specs.declared.place.Place.{Place}
 use Rattle.c_text.specs.declared.token.IntType.{IntType}
 use Rattle.c_text.specs.declared.token.Spelled.TheVariants.{Exact}
@@ -26,7 +26,7 @@ use Rattle.shift_helpers.specs.declared.helper.HelperKind.{HelperKind}
 use Rattle.shift_helpers.specs.declared.helper.HelperKind.TheVariants as h
 use Rattle.shift_helpers.specs.HelperResult.{given_width}
 use Rattle.shift_helpers.specs.HelperTree.{nowhere, name_of, cast_of, packed, unpacked, returned, helper_name, unsigned, returning, helper}
-use Rattle.gen_types.specs.HelperList.{helper_item, helper_items, Lack, AreDifferent}
+use Rattle.gen_types.specs.HelperList.{helper_items, Lack, AreDifferent}
 
 -- ---- a helper calls nothing
 

@@ -1,6 +1,6 @@
 -- Helpers of different kinds or widths have different names, and so do any of them.
 use Rattle.std.proofs.Common.{◌≡◌, ℕ, Bool, true, false, cond, List, [], ◌∷◌, filter, refl}
-use Rattle.std.specs.Prelude.{⊤, bytes_eq}
+use Rattle.std.specs.Prelude.{bytes_eq}
 use Rattle.shift_helpers.specs.declared.helper.HelperKind.{HelperKind}
 use Rattle.shift_helpers.specs.HelperTree.{helper_name}
 use Rattle.gen_types.specs.HelperList.{Lack, AreDifferent, every_helper}

@@ -1,6 +1,6 @@
 -- Helpers have no fault of types, whatever the data model, in any unit where their names are new.
-use Rattle.std.proofs.Common.{◌≡◌, ℕ, Bool, true, false, List, [], ◌∷◌, ◌++◌, map, Option, Some, None, refl, sym, ap, ◌∙◌}
-use Rattle.std.specs.Prelude.{⊤, codes, bytes_eq}
+use Rattle.std.proofs.Common.{◌≡◌, ℕ, false, List, [], ◌∷◌, ◌++◌, Some, None, refl, ap, ◌∙◌}
+use Rattle.std.specs.Prelude.{⊤, codes}
 use Rattle.c_text.specs.declared.token.IntType.{IntType}
 use Rattle.c_text.specs.declared.token.Spelled.TheVariants.{Exact}
 use Rattle.c_tree.specs.declared.expression.BinaryOp.{BinaryOp}
@@ -8,7 +8,7 @@ use Rattle.c_tree.specs.declared.expression.BinaryOp.TheVariants as o
 use Rattle.c_tree.specs.declared.expression.Expr.{Expr}
 use Rattle.c_tree.specs.declared.item.Item.{Item}
 use Rattle.c_tree.specs.declared.item.Item.TheVariants as item
-use Rattle.cg_out.specs.Words.{or_else, look_up}
+use Rattle.cg_out.specs.Words.{look_up}
 use Rattle.name_table.proofs.Adding.{look_up-append}
 use Rattle.c_widths.specs.DataModel.{DataModel}
 use Rattle.c_widths.specs.IntegerType.{exact_type}
@@ -19,7 +19,7 @@ use Rattle.c_types.specs.Setting.{Setting, setting, declared_by, functions}
 use Rattle.c_types.specs.ExpressionTypes.{binary_type}
 use Rattle.c_types.specs.UnitTypes.{head_faults, item_faults, unit_faults}
 use Rattle.c_alike.proofs.TypedExpressions.{IsNumber, typed-name, typed-bracket, typed-cast, typed-binary}
-use Rattle.c_alike.proofs.TypedStatements.{AreTyped, typed-nil, typed-cons, typed-return_value}
+use Rattle.c_alike.proofs.TypedStatements.{typed-nil, typed-cons, typed-return_value}
 use Rattle.c_alike.proofs.TypedUnits.{functions-both, AreFieldsTyped, typed-no_fields, typed-field, typed-first_head, typed-definition, AreItemsTyped, typed-no_items, typed-item, typed-items_both, typed-unit}
 use Rattle.shift_helpers.specs.declared.helper.HelperKind.{HelperKind}
 use Rattle.shift_helpers.specs.declared.helper.HelperKind.TheVariants as h
@@ -99,9 +99,10 @@ AreNew before (h ∷ helpers) = (look_up (helper_name h.0 h.1) (functions before
 new-behind : (before : List Item) (g : HelperKind × ℕ) (helpers : List (HelperKind × ℕ)) → Lack helpers (helper_name g.0 g.1) → AreNew before helpers → AreNew (before ++ helper_item g ∷ []) helpers
 new-behind before g [] lack new = tt
 new-behind before g (h ∷ helpers) lack new =
-    let name = helper_name h.0 h.1 in
-    (ap (look_up name) (functions-both before (helper_item g ∷ [])) ∙ look_up-append name (functions before) (functions (helper_item g ∷ [])) ∙ rw (new.0, lack.0) refl,
-    new-behind before g helpers lack.1 new.1)
+    let name = helper_name h.0 h.1 in (
+      ap (look_up name) (functions-both before (helper_item g ∷ [])) ∙ look_up-append name (functions before) (functions (helper_item g ∷ [])) ∙ rw (new.0, lack.0) refl,
+      new-behind before g helpers lack.1 new.1,
+    )
 
 -- helpers of different names that are new
 pub helpers-typed : (m : DataModel) (items before : List Item) (helpers : List (HelperKind × ℕ)) → AreDifferent helpers → AreNew before helpers → AreItemsTyped m items before (helper_items helpers)
