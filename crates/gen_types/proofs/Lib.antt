@@ -2,3 +2,5 @@
 pub mod HelperTypes
 pub mod HelperCalls
 pub mod HelperNames
+-- A worked unit.
+mod WorkedTypes
