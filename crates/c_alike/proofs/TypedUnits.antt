@@ -1,5 +1,6 @@
 -- Fields, items and units without a fault (ISO/IEC 9899:1999, the constraints of 6.7.2.1, 6.7.5.3 and 6.9), from what stands before them: one step each.
-use Rattle.std.proofs.Common.{◌≡◌, ℕ, Bool, true, false, ◌&&◌, ◌==◌, List, [], ◌∷◌, ◌++◌, map, Some, None, is_some, refl, sym, ap, ◌∙◌, append_assoc, append-nil, arith}
+use Rattle.std.proofs.Common.{◌≡◌, ℕ, Bool, true, false, ◌&&◌, ◌==◌, List, [], ◌∷◌, ◌++◌, map, Some, None, is_some, bytes_eq, refl, sym, ap, ◌∙◌, append_assoc, append-nil, arith, inl, inr}
+use Rattle.std.specs.Prelude.{⊤}
 use Rattle.std.specs.List.{AllByRecursion}
 use Rattle.std.proofs.lemmas.Bool.Decides.{nat_tests}
 use Rattle.c_text.specs.declared.token.Spelled.{Spelled}
@@ -18,7 +19,9 @@ use Rattle.c_tree.specs.declared.item.Unit.{Unit as Whole}
 use Rattle.c_tree.specs.declared.statement.Stmt.{Stmt}
 use Rattle.c_tree.specs.BareUnit.{BareItem, bare_field, bare_head, bare_unit}
 use Rattle.cg_out.specs.Words.{look_up, same_bool}
-use Rattle.c_widths.specs.DataModel.{DataModel}
+use Rattle.c_widths.specs.DataModel.{DataModel, models, ilp32, lp64}
+use Rattle.c_operators.proofs.Models.{IsOneOf}
+use Rattle.name_table.proofs.Adding.{look_up-append}
 use Rattle.c_types.specs.Scope.{Declared, is_reserved}
 use Rattle.c_types.specs.Setting.{Setting, setting, declared_by, structs, functions, definition, definitions, calling, callings}
 use Rattle.c_types.specs.ExpressionTypes.{tag_of}
@@ -97,6 +100,32 @@ fields-agree (f ∷ fs) (g ∷ gs) h =
 pub heads-alike : (f g : Function) → bare_head f ≡ bare_head g → same_head f g ≡ true
 heads-alike f g h = rw (ap (λ b. b.fixed) h, ap (λ b. b.returns) h, self-bool g.fixed, self-type g.returns) (fields-agree f.params g.params (ap (λ b. b.params) h))
 
+-- ---- names of fields
+
+-- no field of these has the name
+abbrev pub LackField : List Field → List ℕ → Type 0
+LackField [] name = ⊤
+LackField (f ∷ fs) name = (bytes_eq name f.name ≡ false) × LackField fs name
+
+-- no two of them have one name
+abbrev pub AreApart : List Field → Type 0
+AreApart [] = ⊤
+AreApart (f ∷ fs) = LackField fs f.name × AreApart fs
+
+-- none of them has a name of these
+abbrev AreUndeclared : Declared → List Field → Type 0
+AreUndeclared earlier [] = ⊤
+AreUndeclared earlier (f ∷ fs) = (look_up f.name earlier ≡ None) × AreUndeclared earlier fs
+
+none-declared : (fs : List Field) → AreUndeclared [] fs
+none-declared [] = tt
+none-declared (f ∷ fs) = (refl, none-declared fs)
+
+undeclared-behind : (earlier : Declared) (g : Field) (fs : List Field) → LackField fs g.name → AreUndeclared earlier fs → AreUndeclared (earlier ++ (g.name, g.kind) ∷ []) fs
+undeclared-behind earlier g [] lack new = tt
+undeclared-behind earlier g (f ∷ fs) lack new =
+    (look_up-append f.name earlier ((g.name, g.kind) ∷ []) ∙ rw (new.0, lack.0) refl, undeclared-behind earlier g fs lack.1 new.1)
+
 -- ---- fields and parameters
 
 module _ (s : Setting) where
@@ -110,6 +139,21 @@ module _ (s : Setting) where
   pub typed-field : (earlier : Declared) (f : Field) (rest : List Field) → lacks_tag s (tag_of f.kind) ≡ false → look_up f.name earlier ≡ None → is_reserved f.name ≡ false
       → AreFieldsTyped (earlier ++ (f.name, f.kind) ∷ []) rest → AreFieldsTyped earlier (f ∷ rest)
   typed-field earlier f rest known new plain r = record { no_faults = none-both _ _ (rw (known, new, plain) refl) (r.no_faults) }
+
+  -- ---- fields of different names
+
+  -- tags that are declared, and names that are not reserved
+  abbrev pub AreKnown : List Field → Type 0
+  AreKnown [] = ⊤
+  AreKnown (f ∷ fs) = (lacks_tag s (tag_of f.kind) ≡ false) × (is_reserved f.name ≡ false) × AreKnown fs
+
+  fields-apart : (earlier : Declared) (fs : List Field) → AreKnown fs → AreApart fs → AreUndeclared earlier fs → AreFieldsTyped earlier fs
+  fields-apart earlier [] known apart new = typed-no_fields earlier
+  fields-apart earlier (f ∷ fs) known apart new =
+      typed-field earlier f fs known.0 new.0 known.1 (fields-apart (earlier ++ (f.name, f.kind) ∷ []) fs known.2 apart.1 (undeclared-behind earlier f fs apart.0 new.1))
+
+  pub typed-fields : (fs : List Field) → AreKnown fs → AreApart fs → AreFieldsTyped [] fs
+  typed-fields fs known apart = fields-apart [] fs known apart (none-declared fs)
 
   -- ---- structs, whose tags are new
 
@@ -165,6 +209,10 @@ typed-unit m items h = h.no_faults
 pub typed-under_all : (models : List DataModel) (u : Whole) → AllByRecursion (λ m. unit_faults m u ≡ []) models → faults_under models u ≡ []
 typed-under_all [] u h = refl
 typed-under_all (m ∷ models) u h = none-both _ _ h.0 (typed-under_all models u h.1)
+
+-- under every model of the list
+pub typed-under_models : (u : Whole) → ((m : DataModel) → IsOneOf m → unit_faults m u ≡ []) → faults_under models u ≡ []
+typed-under_models u each = typed-under_all models u (each ilp32 (inl refl), (each lp64 (inr refl), tt))
 
 -- a unit that is these items but for places, where they have no fault at one fixed place
 pub types-of_bare : (m : DataModel) (u : Whole) (items : List BareItem) → bare_unit u ≡ items → unit_faults m (record { items = map grown_item items }) ≡ [] → unit_faults m u ≡ []
