@@ -1,5 +1,5 @@
 -- A worked unit by the steps, under every model of the list: a helper, a struct, and a function that asks the size, clears its buffer, ors what the helper gives of a field, and returns.
-use Rattle.std.proofs.Common.{◌≡◌, ℕ, true, false, List, [], ◌∷◌, ◌++◌, Some, None, refl, inl, arith}
+use Rattle.std.proofs.Common.{◌≡◌, ℕ, true, false, List, [], ◌∷◌, ◌++◌, Some, None, refl, sym, subst, pos, inl, arith}
 use Rattle.std.specs.Prelude.{codes}
 use Rattle.c_text.specs.declared.token.IntType.TheVariants as t
 use Rattle.c_text.specs.declared.token.Spelled.TheVariants.{Exact, Size, Plain}
@@ -20,17 +20,21 @@ use Rattle.c_tree.specs.declared.item.Unit.{Unit as Whole}
 use Rattle.c_tree.specs.declared.statement.AssignOp.TheVariants as a
 use Rattle.c_tree.specs.declared.statement.Stmt.{Stmt}
 use Rattle.c_tree.specs.declared.statement.StmtKind.TheVariants as s
+use Rattle.c_tree.specs.declared.statement.SwitchPart.TheVariants as p
 use Rattle.c_tree.specs.BareUnit.{bare_unit}
 use Rattle.c_widths.specs.DataModel.{DataModel}
 use Rattle.c_widths.specs.IntegerType.{size_type, exact_type}
 use Rattle.c_widths.specs.Promotion.{promote}
 use Rattle.c_operators.proofs.Models.{IsOneOf}
-use Rattle.c_types.specs.Scope.{Scope, opened}
+use Rattle.c_operators.proofs.Numbers.{fits-Int, promote-UnsignedChar}
+use Rattle.c_operators.proofs.Exact.{exact-byte}
+use Rattle.c_types.specs.SwitchLabels.{Labels, no_labels}
+use Rattle.c_types.specs.Scope.{Scope, opened, type_named}
 use Rattle.c_types.specs.Setting.{Setting, setting, declared_by}
 use Rattle.c_types.specs.UnitTypes.{unit_faults}
 use Rattle.c_effect.proofs.Equations.{node, stmt}
-use Rattle.c_alike.proofs.TypedExpressions.{IsNumber, typed-int, typed-unsigned, typed-name, typed-member, typed-bracket, typed-unary, typed-binary}
-use Rattle.c_alike.proofs.TypedStatements.{IsTyped, AreTyped, typed-nil, typed-cons, typed-if, typed-block, typed-return_value, typed-memset, typed-assign_element}
+use Rattle.c_alike.proofs.TypedExpressions.{IsNumber, typed-int, typed-unsigned, int-constant, typed-name, typed-member, typed-bracket, typed-unary, typed-binary}
+use Rattle.c_alike.proofs.TypedStatements.{IsTyped, AreTyped, typed-nil, typed-cons, typed-if, typed-block, typed-return_value, typed-memset, typed-assign_element, typed-break, typed-part, typed-no_parts, typed-case, typed-default, typed-switch, case-number}
 use Rattle.c_alike.proofs.TypedUnits.{AreFieldsTyped, typed-no_fields, typed-field, typed-struct, typed-first_head, typed-definition, AreItemsTyped, typed-no_items, typed-item}
 use Rattle.c_alike.proofs.UnplacedUnits.{types-alike}
 use Rattle.shift_helpers.specs.declared.helper.HelperKind.{HelperKind}
@@ -83,6 +87,10 @@ list = ask_size ∷ clear ∷ or_part ∷ answer ∷ []
 
 abbrev params : List Field
 params = of_type (c.Pointer target.Byte false) (codes "to") ∷ of_type (c.Pointer (target.Struct (codes "s")) true) (codes "from") ∷ of_type (c.Integer Size) (codes "size") ∷ []
+
+-- switch (which) { case 0: case 1: return 1; default: break; }
+abbrev choice : Stmt
+choice = stmt nowhere (s.Switch (name_of (codes "which")) (p.Label (Some (number 0)) nowhere ∷ p.Label (Some (number 1)) nowhere ∷ p.Statement answer ∷ p.Label None nowhere ∷ p.Statement (stmt nowhere s.Break) ∷ []))
 
 -- int pack(uint8_t *to, const struct s *from, size_t size)
 abbrev pack : Function
@@ -157,3 +165,19 @@ module _ (m : DataModel) (one : IsOneOf m) where
   -- and so is each unit that differs in its places alone
   wherever : (v : Whole) → bare_unit (record { items = items }) ≡ bare_unit v → unit_faults m v ≡ []
   wherever v e = types-alike m (record { items = items }) v e whole
+
+  -- switch (which) { case 0: case 1: return 1; default: break; }
+  chosen : (known : Setting) (scope : Scope) → known.model ≡ m → type_named (codes "which") scope ≡ Some (c.Integer (Exact 8 false)) → IsTyped known int scope choice []
+  chosen known scope is named =
+      let of_model : IsOneOf known.model = subst IsOneOf (sym is) one in
+      let promoted : promote known.model (exact_type known.model 8 false) ≡ t.Int = rw (exact-byte known.model of_model, promote-UnsignedChar known.model of_model) refl in
+      let inner = opened scope in
+      let both : Labels = record { values = pos 0 ∷ pos 1 ∷ []; has_default = false } in
+      let stops = typed-part known int t.Int (record { values = pos 0 ∷ pos 1 ∷ []; has_default = true }) inner (stmt nowhere s.Break) [] [] (typed-break known int inner nowhere) (typed-no_parts known int t.Int _ inner) in
+      let others = typed-default known int t.Int both inner nowhere _ refl stops in
+      let answers = typed-part known int t.Int both inner answer [] _ (typed-return_value known int inner nowhere (number 1) t.Int refl (typed-int known inner of_model nowhere 1 (omega arith))) others in
+      let of_1 = typed-case known int t.Int t.Int (pos 1) (record { values = pos 0 ∷ []; has_default = false }) inner (number 1) nowhere _ (typed-int known inner of_model nowhere 1 (omega arith))
+      (case-number known.model nowhere _ t.Int t.Int (int-constant known.model of_model 1 (omega arith)) (fits-Int known.model of_model 1 31 (omega arith) (omega arith))) refl answers in
+      let of_0 = typed-case known int t.Int t.Int (pos 0) no_labels inner (number 0) nowhere _ (typed-int known inner of_model nowhere 0 (omega arith))
+      (case-number known.model nowhere _ t.Int t.Int (int-constant known.model of_model 0 (omega arith)) (fits-Int known.model of_model 0 31 (omega arith) (omega arith))) refl of_1 in
+      typed-switch known int scope nowhere (name_of (codes "which")) (exact_type known.model 8 false) _ (typed-name known scope nowhere (codes "which") (Exact 8 false) named) (rw promoted of_0)
