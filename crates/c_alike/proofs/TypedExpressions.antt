@@ -56,7 +56,7 @@ pub record MayCall (s : Setting) (scope : Scope) (name : List ℕ) (count : ℕ)
   pub takes : length function.params ≡ count
   pub numbers : takes_pointer function.params ≡ false
 
-and-false : (b : Bool) → (b && false) ≡ false
+pub and-false : (b : Bool) → (b && false) ≡ false
 and-false true = refl
 and-false false = refl
 

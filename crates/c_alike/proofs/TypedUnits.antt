@@ -1,5 +1,5 @@
 -- Fields, items and units without a fault (ISO/IEC 9899:1999, the constraints of 6.7.2.1, 6.7.5.3 and 6.9), from what stands before them: one step each.
-use Rattle.std.proofs.Common.{◌≡◌, ℕ, Bool, true, false, ◌&&◌, ◌==◌, List, [], ◌∷◌, ◌++◌, map, Some, None, is_some, bytes_eq, refl, sym, ap, ◌∙◌, append_assoc, append-nil, arith, inl, inr}
+use Rattle.std.proofs.Common.{◌≡◌, ℕ, Bool, true, false, ◌==◌, List, [], ◌∷◌, ◌++◌, map, Some, None, is_some, bytes_eq, refl, sym, ap, ◌∙◌, append_assoc, append-nil, arith, inl, inr}
 use Rattle.std.specs.Prelude.{⊤}
 use Rattle.std.specs.List.{AllByRecursion}
 use Rattle.std.proofs.lemmas.Bool.Decides.{nat_tests}
@@ -30,11 +30,8 @@ use Rattle.c_effect.proofs.Placeless.{grown_item}
 use Rattle.c_effect.proofs.BareGrown.{bare-grown_items}
 use Rattle.c_effect.proofs.Locals.{same-name}
 use Rattle.c_alike.proofs.UnplacedUnits.{types-alike}
+use Rattle.c_alike.proofs.TypedExpressions.{and-false}
 use Rattle.c_alike.proofs.TypedStatements.{none-both, AreTyped}
-
-and-false : (b : Bool) → (b && false) ≡ false
-and-false true = refl
-and-false false = refl
 
 none-first : (a b : List Refusal) → a ++ b ≡ [] → a ≡ []
 none-first [] b h = refl
