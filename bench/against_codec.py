@@ -10,19 +10,18 @@ built (./run).
 import importlib.util
 import os
 import random
-import subprocess
 import sys
 import tempfile
 
 from against_canmatrix import file
-from program import PROGRAM, want_program
+from program import run_program, want_program
 
 FILES = 60
 
 
 def told(*words):
     """The report of these words."""
-    run = subprocess.run([PROGRAM, *words], capture_output=True, text=True, check=False)
+    run = run_program(*words)
     return run.stdout if run.returncode == 0 else f"status {run.returncode}"
 
 

@@ -12,12 +12,11 @@ written beside the text.
 """
 import os
 import random
-import shutil
 import subprocess
 import sys
 import tempfile
 
-from program import PROGRAM
+from program import run_program, want_program, want_tools
 
 FRONT = """#include <stdbool.h>
 #include <stddef.h>
@@ -127,18 +126,17 @@ def is_known(text, line):
     return "label" in line or ("before " in line and is_branch(text, line))
 
 
-def shown_by_gcc(gcc, option, folder, text):
+def shown_by_gcc(option, folder, text):
     """What shows gcc that the last line of the text is no C, but for what is known."""
-    words = [gcc, option, "-std=c99", "-pedantic-errors", "-ffreestanding", "-isystem", ".", "-fsyntax-only", "-w", "s.c"]
+    words = ["gcc", option, "-std=c99", "-pedantic-errors", "-ffreestanding", "-isystem", ".", "-fsyntax-only", "-w", "s.c"]
     run = subprocess.run(words, cwd=folder, capture_output=True, text=True, check=False)
     errors = [line for line in run.stderr.splitlines() if "error:" in line]
     return [option + line for line in errors if not is_known(text, line)]
 
 
 def main():
-    gcc = shutil.which("gcc")
-    if not gcc or not os.path.exists(PROGRAM):
-        sys.exit("it wants gcc, and the program: ./run generate_c_source examples/can.dbc")
+    want_program()
+    want_tools("gcc")
     texts, seed = (int(word) for word in (sys.argv[1:] + ["2000", "1"][len(sys.argv) - 1 :]))
     rng = random.Random(seed)
     head = "int f ( int v , long w , struct s * p , uint8_t * q ) {".split()
@@ -151,8 +149,8 @@ def main():
             text = " ".join(damaged(rng, head + statements(rng, 3, False) + ["}"]))
             with open(os.path.join(folder, "s.c"), "w", encoding="ascii") as f:
                 f.write(FRONT + text + "\n")
-            status = subprocess.run([PROGRAM, "check", "h.h", "s.c"], cwd=folder, stdout=subprocess.DEVNULL, stderr=subprocess.DEVNULL, check=False).returncode
-            errors = [line for option in MODELS for line in shown_by_gcc(gcc, option, folder, text)] if status == 0 else []
+            status = run_program("check", "h.h", "s.c", folder=folder).returncode
+            errors = [line for option in MODELS for line in shown_by_gcc(option, folder, text)] if status == 0 else []
             accepted += status == 0
             if errors or status not in (0, 3):
                 differ += 1

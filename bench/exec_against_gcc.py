@@ -16,13 +16,12 @@ import collections
 import os
 import random
 import re
-import shutil
 import subprocess
 import sys
 import tempfile
 
 from against_gcc import FRONT, statements
-from program import PROGRAM
+from program import PROGRAM, run_program, want_program, want_tools
 
 HEAD = "int f{}(int v, unsigned w, struct s *p, uint8_t *q) {{"
 BATCH = 25
@@ -138,8 +137,8 @@ def differs(folder, number, call, report):
 
 
 def main():
-    if not all(shutil.which(name) for name in ("gcc", "clang")) or not os.path.exists(PROGRAM):
-        sys.exit("it wants gcc, clang and the program (./run)")
+    want_program()
+    want_tools("gcc", "clang")
     programs = int(sys.argv[1]) if len(sys.argv) > 1 else 500
     rng = random.Random(int(sys.argv[2]) if len(sys.argv) > 2 else 1)
     ends, wrong = collections.Counter(), 0
@@ -158,8 +157,7 @@ def main():
                 for number, text in enumerate(texts):
                     for _ in range(4):
                         call = arguments(rng)
-                        words = [PROGRAM, "exec", "h.h", "s.c", model, f"f{number}", *words_of(*call)]
-                        report = run(words, folder).stdout
+                        report = run_program("exec", "h.h", "s.c", model, f"f{number}", *words_of(*call), folder=folder).stdout
                         kind, shown = differs(folder, number, call, report)
                         ends[kind] += 1
                         if shown:

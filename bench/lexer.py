@@ -9,13 +9,10 @@ linear. `expand` cuts the text first, and takes it as a source with an empty hea
 `--keep FOLDER` that folder is made or used again, and left.
 """
 import os
-import subprocess
-import sys
-import tempfile
 
 from generated import pack, signals
 from measuring import exponent, measure
-from program import lay_out
+from program import build_program, work_folders
 
 CRATES = ["cg_out", "c_text", "c_lexer", "c_pre"]
 NAME = "lexer_bench"
@@ -149,29 +146,9 @@ def write_text(path, limit):
             f.write(joined(functions(number)))
 
 
-def build(folder):
-    """The program over copies of the crates."""
-    crate = lay_out(folder, NAME, CRATES, "c_pre c_lexer c_text cg_out", SOURCE)
-    for part in ("specs", "proofs"):
-        os.makedirs(os.path.join(crate, part), exist_ok=True)
-        open(os.path.join(crate, part, "Lib.antt"), "a", encoding="ascii").close()
-    log = os.path.join(folder, "log")
-    with open(log, "w", encoding="utf-8") as f:
-        subprocess.run(["rt", "run"], cwd=crate, stdin=subprocess.DEVNULL, stdout=f, stderr=f, check=False)
-    program = os.path.join(crate, "out", NAME)
-    if not os.path.exists(program):
-        with open(log, encoding="utf-8") as f:
-            sys.exit("not built:\n" + "".join(f.readlines()[-20:]))
-    return program
-
-
 def main():
-    with tempfile.TemporaryDirectory() as scratch:
-        folder = scratch
-        if sys.argv[1:2] == ["--keep"]:
-            folder = os.path.abspath(sys.argv[2])
-            os.makedirs(folder, exist_ok=True)
-        program = build(folder)
+    with work_folders() as (folder, scratch):
+        program = build_program(folder, NAME, CRATES, "c_pre c_lexer c_text cg_out", SOURCE)
         rows = []
         print(" ".join(f"{name:>10}" for name in COLUMNS))
         for size in (8_000_000, LIMIT):

@@ -7,13 +7,8 @@ than one, the best of three), the bytes a second, and the memory beside that of 
 of the text; and how fast the time grows with the text: an exponent of 1 is linear. With `--keep FOLDER`
 that folder is made or used again, and left.
 """
-import os
-import subprocess
-import sys
-import tempfile
-
 from measuring import measure, print_exponent
-from program import lay_out
+from program import build_program, work_folders
 
 CRATES = ["cg_out", "c_text", "c_tree", "c_parts", "c_printed", "c_recut", "c_printer"]
 NAME = "printing_bench"
@@ -138,29 +133,9 @@ fn main(rt: HostRuntime) -> ExitCode {
 """
 
 
-def build(folder):
-    """The program over copies of the crates."""
-    crate = lay_out(folder, NAME, CRATES, "c_printer c_tree c_text cg_out", SOURCE)
-    for part in ("specs", "proofs"):
-        os.makedirs(os.path.join(crate, part), exist_ok=True)
-        open(os.path.join(crate, part, "Lib.antt"), "a", encoding="ascii").close()
-    log = os.path.join(folder, "log")
-    with open(log, "w", encoding="utf-8") as f:
-        subprocess.run(["rt", "run"], cwd=crate, stdin=subprocess.DEVNULL, stdout=f, stderr=f, check=False)
-    program = os.path.join(crate, "out", NAME)
-    if not os.path.exists(program):
-        with open(log, encoding="utf-8") as f:
-            sys.exit("not built:\n" + "".join(f.readlines()[-20:]))
-    return program
-
-
 def main():
-    with tempfile.TemporaryDirectory() as scratch:
-        folder = scratch
-        if sys.argv[1:2] == ["--keep"]:
-            folder = os.path.abspath(sys.argv[2])
-            os.makedirs(folder, exist_ok=True)
-        program = build(folder)
+    with work_folders() as (folder, scratch):
+        program = build_program(folder, NAME, CRATES, "c_printer c_tree c_text cg_out", SOURCE)
         timings = []
         print(" ".join(f"{name:>12}" for name in ("functions", "bytes", "ms", "MB/s", "memory/text")))
         for functions in (1_500, 12_000):

@@ -9,11 +9,10 @@ Prints how many agree, and ends with 1 where one does not. It wants gcc and rt.
     types_against_gcc.py
 """
 import re
-import shutil
 import subprocess
 import sys
 
-from program import try_program
+from program import try_program, want_tools
 
 CRATES = ["cg_out", "c_text", "c_tree", "c_mean", "c_widths"]
 KINDS = {
@@ -104,25 +103,23 @@ def expressions():
         yield SPELLED[base](number) + "u" * unsigned + "l" * longs
 
 
-def differences(gcc, option, kinds):
+def differences(option, kinds):
     """The lines on which gcc says otherwise; a constant that no type holds is none of C's, and is left out."""
     lines = [
         f'_Static_assert(__builtin_types_compatible_p(__typeof__({expression}), {KINDS[kind]}), "{expression} is no {KINDS[kind]}");'
         for expression, kind in zip(expressions(), kinds)
         if kind != "None"
     ]
-    words = [gcc, "-std=c99", option, "-w", "-fsyntax-only", "-x", "c", "-"]
+    words = ["gcc", "-std=c99", option, "-w", "-fsyntax-only", "-x", "c", "-"]
     run = subprocess.run(words, input="\n".join(lines) + "\n", capture_output=True, text=True, check=False)
     return len(lines), re.findall(r"static assertion failed: (.*)", run.stderr) or ([run.stderr] if run.returncode else [])
 
 
 def main():
-    gcc = shutil.which("gcc")
-    if not gcc or not shutil.which("rt"):
-        sys.exit("it wants gcc and rt")
+    want_tools("gcc", "rt")
     bad = False
     for (model, option), kinds in zip(MODELS, computed()):
-        asked, found = differences(gcc, option, kinds)
+        asked, found = differences(option, kinds)
         print(f"{option}: {asked} types, gcc differs on {len(found)}", *found[:5], sep="\n    ")
         bad = bad or bool(found)
     sys.exit(1 if bad else 0)

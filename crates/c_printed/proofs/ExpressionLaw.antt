@@ -23,6 +23,12 @@ use Rattle.c_printed.specs.Printable.{IsBase, eight, ten, sixteen, AreApart, Fit
 use Rattle.c_printed.proofs.Pieces.{Reads, stops, joined, then, nothing, named, named-before, free-any}
 use Rattle.c_printed.proofs.Spelled.{given-name, reads-operator, opening, closing, opening_square, closing_square, arrow, comma_mark, signed, sign-cut, callee-name, reads-type, reads-constant}
 
+-- ---- what stands between arguments, and between parameters
+
+pub reads-separator : (b : Bool) → Reads true true (separator b) (comma b)
+reads-separator true = nothing
+reads-separator false = comma_mark
+
 -- ---- what a text begins with
 
 letter-apart : (b : ℕ) → is_letter b ≡ true → extends b ≡ false
@@ -136,13 +142,9 @@ mutual
   pub reads-all : (wide : Bool) (first : Bool) (ts : Trees) → FitAll ts → Reads true false (separated wide first ts) (all_tokens written first ts)
   reads-all wide first none h = free-any false _ _ nothing
   reads-all wide first (more t ts) h =
-      then false _ _ (comma first) _ (separator-reads first)
+      then false _ _ (comma first) _ (reads-separator first)
       (joined false false _ _ (tokens_of written t) _ (next wide ts) (reads-tree wide 0 t h.0) (reads-all wide false ts h.1))
     where
-      separator-reads : (b : Bool) → Reads true true (separator b) (comma b)
-      separator-reads true = nothing
-      separator-reads false = comma_mark
-
       next : (wide : Bool) (us : Trees) (rest : List ℕ) → (false || stops rest) ≡ true → (false || stops (separated wide false us ++ rest)) ≡ true
       next wide none rest e = e
       next wide (more u us) rest e = refl

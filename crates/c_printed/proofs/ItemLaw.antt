@@ -24,9 +24,9 @@ use Rattle.c_printed.specs.Printable.{IsFree}
 use Rattle.c_printed.specs.PrintedItem.{Field, const_text, target_text, named_text, const_tokens, target_tokens, named_tokens, about_text, fields_text, struct_text, fields_tokens, struct_tokens, params_text, all_params_text, static_text, head_text, body_text, function_text, params_tokens, all_params_tokens, static_tokens, head_tokens, body_tokens, field_of}
 use Rattle.c_printed.specs.PrintableItem.{is_shown, IsShown, IsTarget, IsParameter, IsParameterType, IsIntegerType, IsReturned, IsField, IsHead, FitsBody}
 use Rattle.c_printed.proofs.Pieces.{Reads, stops, joined, nothing, named, free-any, given}
-use Rattle.c_printed.proofs.Spelled.{blank, opening, closing, comma_mark, given-name, reads-type}
+use Rattle.c_printed.proofs.Spelled.{blank, opening, closing, given-name, reads-type}
 use Rattle.c_text.proofs.Marks.{kinds-part}
-use Rattle.c_printed.proofs.ExpressionLaw.{name-first}
+use Rattle.c_printed.proofs.ExpressionLaw.{name-first, reads-separator}
 use Rattle.c_printed.proofs.StatementLaw.{reads-actions}
 use Rattle.c_printed.proofs.Pieces as p
 
@@ -150,10 +150,6 @@ reads-struct tag fs h k =
     (p.then true (fields_text fs) (codes "};") (fields_tokens written (map field_of fs)) _ (reads-fields fs k) struct-ends)))
 
 -- ---- functions
-
-reads-separator : (b : Bool) → Reads true true (separator b) (comma b)
-reads-separator true = nothing
-reads-separator false = comma_mark
 
 next : (ps : List BareField) (rest : List ℕ) → (false || stops rest) ≡ true → (false || stops (params_text false ps ++ rest)) ≡ true
 next [] rest e = e

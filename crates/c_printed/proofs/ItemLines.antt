@@ -1,5 +1,5 @@
 -- A text that is read piece by piece, with a line end behind it, is lines of tokens and no directives.
-use Rattle.std.proofs.Common.{◌≡◌, ℕ, Bool, true, false, not, ◌||◌, ◌&&◌, cond, List, [], ◌∷◌, ◌++◌, map, drop, Option, Ok, refl, sym, ap, ◌∙◌, append_assoc}
+use Rattle.std.proofs.Common.{◌≡◌, ℕ, Bool, true, false, ◌||◌, ◌&&◌, cond, List, [], ◌∷◌, ◌++◌, map, drop, Option, Ok, refl, sym, ap, ◌∙◌, append_assoc}
 use Rattle.std.specs.Prelude.{codes}
 use Rattle.std.specs.List.{list_all, AllByRecursion}
 use Rattle.c_text.specs.declared.token.TokenKind.{TokenKind}
@@ -14,6 +14,8 @@ use Rattle.c_text.specs.BarePreprocessing.{seen_kinds}
 use Rattle.c_text.proofs.Boundary.{pass-append}
 use Rattle.c_text.proofs.Joined.{read_behind, gathered-line_end}
 use Rattle.c_text.proofs.TextLines.{AreLines}
+use Rattle.cg_out.proofs.WordLaws.{both}
+use Rattle.c_printed.proofs.SmallLaws.{not-true, and-false}
 use Rattle.c_printed.proofs.Pieces.{Reads, stops, fine, tokens_in}
 
 -- ---- the tokens of lexemes without fault
@@ -25,20 +27,16 @@ collected fresh joined (line_end ∷ ls) = collected true false ls
 collected fresh joined (space ∷ ls) = collected fresh false ls
 collected fresh joined (bad c ∷ ls) = []
 
-pub and-both : (a b : Bool) → (a && b) ≡ true → (a ≡ true) × (b ≡ true)
-and-both true b e = (refl, e)
-and-both false b e = cc
-
 pub clean-gathered : (fresh joined : Bool) (ls : List Lexeme) → list_all (fine false) ls ≡ true → bare_gathered fresh joined ls ≡ Ok (collected fresh joined ls)
 clean-gathered fresh joined [] e = refl
-clean-gathered fresh joined (token k ∷ ls) e = ap (onto (bare_token k fresh joined)) (clean-gathered false true ls (and-both (fine false (token k)) (list_all (fine false) ls) e).1)
+clean-gathered fresh joined (token k ∷ ls) e = ap (onto (bare_token k fresh joined)) (clean-gathered false true ls (both (fine false (token k)) (list_all (fine false) ls) e).1)
 clean-gathered fresh joined (line_end ∷ ls) e = clean-gathered true false ls e
 clean-gathered fresh joined (space ∷ ls) e = clean-gathered fresh false ls e
 clean-gathered fresh joined (bad c ∷ ls) e = cc
 
 pub collected-kinds : (fresh joined : Bool) (ls : List Lexeme) → list_all (fine false) ls ≡ true → seen_kinds (collected fresh joined ls) ≡ tokens_in ls
 collected-kinds fresh joined [] e = refl
-collected-kinds fresh joined (token k ∷ ls) e = ap (λ ks. k ∷ ks) (collected-kinds false true ls (and-both (fine false (token k)) (list_all (fine false) ls) e).1)
+collected-kinds fresh joined (token k ∷ ls) e = ap (λ ks. k ∷ ks) (collected-kinds false true ls (both (fine false (token k)) (list_all (fine false) ls) e).1)
 collected-kinds fresh joined (line_end ∷ ls) e = collected-kinds true false ls e
 collected-kinds fresh joined (space ∷ ls) e = collected-kinds fresh false ls e
 collected-kinds fresh joined (bad c ∷ ls) e = cc
@@ -55,22 +53,14 @@ collected-fresh joined (bad c ∷ ls) = refl
 abbrev NoHash : Bare → Type 0
 NoHash t = is_mark (codes "#") t.kind ≡ false
 
-not-true : (b : Bool) → not b ≡ true → b ≡ false
-not-true false e = refl
-not-true true e = cc
-
 collected-no_hash : (fresh joined : Bool) (ls : List Lexeme) → list_all (fine false) ls ≡ true → AllByRecursion NoHash (collected fresh joined ls)
 collected-no_hash fresh joined [] e = tt
 collected-no_hash fresh joined (token k ∷ ls) e =
-    let both = and-both (fine false (token k)) (list_all (fine false) ls) e in
-    (not-true (is_mark (codes "#") k) both.0, collected-no_hash false true ls both.1)
+    let t = both (fine false (token k)) (list_all (fine false) ls) e in
+    (not-true (is_mark (codes "#") k) t.0, collected-no_hash false true ls t.1)
 collected-no_hash fresh joined (line_end ∷ ls) e = collected-no_hash true false ls e
 collected-no_hash fresh joined (space ∷ ls) e = collected-no_hash fresh false ls e
 collected-no_hash fresh joined (bad c ∷ ls) e = tt
-
-pub and-false : (b : Bool) → (b && false) ≡ false
-and-false true = refl
-and-false false = refl
 
 is-text : (beside : Option (List ℕ)) (t : Bare) (ts : List Bare) → NoHash t → line_of beside (t ∷ ts) ≡ text (t ∷ ts)
 is-text beside t ts h = ap (λ b. cond (t.fresh && b) (directive beside t.kept ts) (text (t ∷ ts))) h ∙ ap (λ b. cond b (directive beside t.kept ts) (text (t ∷ ts))) (and-false t.fresh)

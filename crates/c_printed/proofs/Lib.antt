@@ -1,3 +1,4 @@
+pub mod SmallLaws
 pub mod Pieces
 pub mod Spelled
 pub mod ExpressionLaw

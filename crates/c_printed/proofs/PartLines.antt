@@ -28,10 +28,12 @@ use Rattle.c_printed.specs.PrintedUnit.{Part, comment, blank, include, include_b
 use Rattle.c_printed.specs.PrintedItem.{struct_text, function_text, struct_tokens, head_tokens, field_of, body_tokens as function_body_tokens}
 use Rattle.c_printed.specs.State.{State, header_named, listed, macro_body, behind_part}
 use Rattle.c_printed.specs.PrintableUnit.{NoWords, IsBody, IsKnown, IsBeside, Right, AllRight}
-use Rattle.c_printed.proofs.Pieces.{Reads, fine, looser}
+use Rattle.cg_out.proofs.WordLaws.{both}
+use Rattle.c_printed.proofs.SmallLaws.{and-false}
+use Rattle.c_printed.proofs.Pieces.{Reads, fine, looser, whole-lexemes}
 use Rattle.c_printed.proofs.ExpressionLaw.{reads-tree}
 use Rattle.c_printed.proofs.ItemLaw.{shown-inside, reads-struct, reads-function}
-use Rattle.c_printed.proofs.ItemLines.{collected, clean-gathered, collected-kinds, and-both, and-false, flat, text-lines, text-kinds}
+use Rattle.c_printed.proofs.ItemLines.{collected, clean-gathered, collected-kinds, flat, text-lines, text-kinds}
 
 abbrev pub BareLine : Type 0
 BareLine = Line (Unit {0})
@@ -41,15 +43,12 @@ BareLine = Line (Unit {0})
 abbrev pub groups_of : List ℕ → List (List Bare)
 groups_of x = lines (collected true false (kinds 0 x))
 
-lexemes-are : (x : List ℕ) (ks : List TokenKind) (p : Reads false true x ks) → p.lexemes ≡ kinds 0 x
-lexemes-are x ks p = sym (append-nil p.lexemes) ∙ sym (p.cut [] refl) ∙ ap (kinds 0) (append-nil x)
-
 pub item-lines : (beside : Option (List ℕ)) (x : List ℕ) (ks : List TokenKind) → Reads false true x ks → AreLines beside (x ++ 10 ∷ []) (map text (groups_of x))
 item-lines beside x ks p =
-    subst (λ ls. AreLines beside (x ++ 10 ∷ []) (map text (lines (collected true false ls)))) (lexemes-are x ks p) (text-lines beside true x ks p (λ rest. refl))
+    subst (λ ls. AreLines beside (x ++ 10 ∷ []) (map text (lines (collected true false ls)))) (whole-lexemes true x ks p) (text-lines beside true x ks p (λ rest. refl))
 
 pub item-kinds : (x : List ℕ) (ks : List TokenKind) → Reads false true x ks → seen_kinds (flat (groups_of x)) ≡ ks
-item-kinds x ks p = subst (λ ls. seen_kinds (flat (lines (collected true false ls))) ≡ ks) (lexemes-are x ks p) (text-kinds true x ks p)
+item-kinds x ks p = subst (λ ls. seen_kinds (flat (lines (collected true false ls))) ≡ ks) (whole-lexemes true x ks p) (text-kinds true x ks p)
 
 -- ---- macros
 
@@ -59,7 +58,7 @@ body_bares (Some t) = collected false false (kinds 0 (printed false t))
 
 not-fresh : (joined : Bool) (ls : List Lexeme) → list_all (fine true) ls ≡ true → AllByRecursion (λ (u : Bare). u.fresh ≡ false) (collected false joined ls)
 not-fresh joined [] e = tt
-not-fresh joined (token k ∷ ls) e = (refl, not-fresh true ls (and-both (fine true (token k)) (list_all (fine true) ls) e).1)
+not-fresh joined (token k ∷ ls) e = (refl, not-fresh true ls (both (fine true (token k)) (list_all (fine true) ls) e).1)
 not-fresh joined (line_end ∷ ls) e = cc
 not-fresh joined (space ∷ ls) e = not-fresh false ls e
 not-fresh joined (bad c ∷ ls) e = tt
@@ -146,21 +145,18 @@ define-body beside n x ks h p w =
           (pass-append is_plain n _ (bytes-plain n (name-goes_on n h)) (pass-append is_plain (codes " " ++ x) (10 ∷ []) (refl, p.plain) (refl, tt)));
     }
 
-tree-lexemes : (x : List ℕ) (ks : List TokenKind) (p : Reads true false x ks) → p.lexemes ≡ kinds 0 x
-tree-lexemes x ks p = sym (append-nil p.lexemes) ∙ sym (p.cut [] refl) ∙ ap (kinds 0) (append-nil x)
-
 pub body-kinds : (body : Option Tree) → IsBody body → seen_kinds (body_bares body) ≡ macro_body body
 body-kinds None h = refl
 body-kinds (Some t) h =
     let p = reads-tree false 0 t h.0 in
-    ap (λ ls. seen_kinds (collected false false ls)) (sym (tree-lexemes (printed false t) (tokens_of written t) p))
+    ap (λ ls. seen_kinds (collected false false ls)) (sym (whole-lexemes false (printed false t) (tokens_of written t) p))
     ∙ collected-kinds false false p.lexemes (looser p.lexemes p.clean) ∙ p.are ∙ same-voice written left t h.1
 
 define-lines : (beside : Option (List ℕ)) (n : List ℕ) (body : Option Tree) → IsName n → IsBody body → AreLines beside (part_text (define n body)) (define_line tt n (body_bares body) ∷ [])
 define-lines beside n None h k = define_empty-line beside n h
 define-lines beside n (Some t) h k =
     let p = reads-tree false 0 t k.0 in
-    subst (λ ls. AreLines beside (part_text (define n (Some t))) (define_line tt n (collected false false ls) ∷ [])) (tree-lexemes (printed false t) (tokens_of written t) p)
+    subst (λ ls. AreLines beside (part_text (define n (Some t))) (define_line tt n (collected false false ls) ∷ [])) (whole-lexemes false (printed false t) (tokens_of written t) p)
     (define-body beside n (printed false t) (tokens_of written t) h p (no-words written t k.1))
 
 -- ---- includes

@@ -1,5 +1,5 @@
 -- Texts that are read piece by piece.
-use Rattle.std.proofs.Common.{◌≡◌, ℕ, zero, suc, Bool, true, false, not, ◌||◌, ◌&&◌, ◌==◌, List, [], ◌∷◌, ◌++◌, replicate, refl, sym, ap, ◌∙◌, append_assoc}
+use Rattle.std.proofs.Common.{◌≡◌, ℕ, zero, suc, Bool, true, false, not, ◌||◌, ◌&&◌, ◌==◌, List, [], ◌∷◌, ◌++◌, replicate, refl, sym, ap, ◌∙◌, append_assoc, append-nil}
 use Rattle.std.specs.Prelude.{codes}
 use Rattle.std.specs.List.{list_all}
 use Rattle.c_text.specs.declared.token.TokenKind.{TokenKind}
@@ -11,6 +11,8 @@ use Rattle.c_text.specs.StandardHeader.{is_mark}
 use Rattle.c_text.specs.Tokens.{kinds}
 use Rattle.c_text.proofs.Boundary.{pass-all, pass-append, goes_on_with_number, kinds-name, kinds-blanks}
 use Rattle.c_text.proofs.PrintedLines.{bytes-plain, name-goes_on}
+use Rattle.cg_out.proofs.WordLaws.{both}
+use Rattle.c_printed.proofs.SmallLaws.{not-true, or-true, passes-append}
 
 -- ---- lexemes
 
@@ -35,14 +37,6 @@ in-append (line_end ∷ ks) ls = in-append ks ls
 in-append (space ∷ ks) ls = in-append ks ls
 in-append (bad c ∷ ks) ls = in-append ks ls
 
-pub all-append : {X : Type 0} (p : X → Bool) (xs ys : List X) → list_all p xs ≡ true → list_all p ys ≡ true → list_all p (xs ++ ys) ≡ true
-all-append p [] ys h k = k
-all-append p (x ∷ xs) ys h k = both (p x) (list_all p xs) (list_all p (xs ++ ys)) h (λ e. all-append p xs ys e k)
-  where
-    both : (a b c : Bool) → (a && b) ≡ true → (b ≡ true → c ≡ true) → (a && c) ≡ true
-    both true b c e f = f e
-    both false b c e f = e
-
 -- ---- pieces
 
 -- no name and no number goes on with this
@@ -57,21 +51,13 @@ pub record Reads (inline free : Bool) (text : List ℕ) (ks : List TokenKind) : 
   pub are : tokens_in lexemes ≡ ks
   pub plain : Pass is_plain text
 
-or-true : (b : Bool) → (b || true) ≡ true
-or-true true = refl
-or-true false = refl
-
 -- what is fine within a line is fine
 finer : (i j : Bool) (ls : List Lexeme) → (i || not j) ≡ true → list_all (fine i) ls ≡ true → list_all (fine j) ls ≡ true
 finer true j ls h e = loose j ls e
   where
     loose : (j : Bool) (ls : List Lexeme) → list_all (fine true) ls ≡ true → list_all (fine j) ls ≡ true
     loose j [] e = refl
-    loose j (token k ∷ ls) e = both (not (is_mark (codes "#") k)) _ _ e (λ f. loose j ls f)
-      where
-        both : (a b c : Bool) → (a && b) ≡ true → (b ≡ true → c ≡ true) → (a && c) ≡ true
-        both true b c e f = f e
-        both false b c e f = e
+    loose j (token k ∷ ls) e = let t = both (fine true (token k)) (list_all (fine true) ls) e in λ i. t.0 i && loose j ls t.1 i
     loose j (line_end ∷ ls) e = cc
     loose j (space ∷ ls) e = loose j ls e
     loose j (bad c ∷ ls) e = e
@@ -101,7 +87,7 @@ joined {i} {j} f g x y a b stop p q = record {
   cut = λ rest e.
       ap (kinds 0) (append_assoc x y rest) ∙ p.cut (y ++ rest) (stop rest e)
       ∙ ap (λ ls. p.lexemes ++ ls) (q.cut rest e) ∙ sym (append_assoc p.lexemes q.lexemes (kinds 0 rest));
-  clean = all-append (fine (i && j)) p.lexemes q.lexemes (finer i (i && j) p.lexemes (first-of i j) p.clean) (finer j (i && j) q.lexemes (second-of i j) q.clean);
+  clean = passes-append (fine (i && j)) p.lexemes q.lexemes (finer i (i && j) p.lexemes (first-of i j) p.clean) (finer j (i && j) q.lexemes (second-of i j) q.clean);
   are = in-append p.lexemes q.lexemes ∙ ap (λ ks. ks ++ tokens_in q.lexemes) p.are ∙ ap (λ ks. a ++ ks) q.are;
   plain = pass-append is_plain x y p.plain q.plain;
 }
@@ -109,6 +95,10 @@ joined {i} {j} f g x y a b stop p q = record {
 -- behind a piece that may stand before anything
 pub then : {i j : Bool} (g : Bool) (x y : List ℕ) (a b : List TokenKind) → Reads i true x a → Reads j g y b → Reads (i && j) g (x ++ y) (a ++ b)
 then g x y a b p q = joined true g x y a b (λ rest e. refl) p q
+
+-- what is cut of the text alone
+pub whole-lexemes : {i : Bool} (f : Bool) (x : List ℕ) (a : List TokenKind) (p : Reads i f x a) → p.lexemes ≡ kinds 0 x
+whole-lexemes f x a p = sym (append-nil p.lexemes) ∙ sym (p.cut [] (or-true f)) ∙ ap (kinds 0) (append-nil x)
 
 -- nothing
 pub nothing : Reads true true [] []
@@ -122,17 +112,13 @@ pub given : {i : Bool} (x : List ℕ) (ls : List Lexeme) → ((rest : List ℕ) 
 given x ls e c p = record { lexemes = ls; cut = λ rest f. e rest; clean = c; are = refl; plain = pass-all is_plain x p }
 
 -- a name
-pub not-stops : (b : Bool) → not b ≡ true → b ≡ false
-not-stops false e = refl
-not-stops true e = cc
-
 none-of : (g d s : Bool) → (g || d || s) ≡ false → g ≡ false
 none-of false d s e = refl
 none-of true d s e = cc
 
 no-name : (rest : List ℕ) → stops rest ≡ true → first_passes goes_on rest ≡ false
 no-name [] e = refl
-no-name (b ∷ bs) e = none-of (goes_on b) (b == 46) (is_sign b) (not-stops (goes_on_with_number b) e)
+no-name (b ∷ bs) e = none-of (goes_on b) (b == 46) (is_sign b) (not-true (goes_on_with_number b) e)
 
 pub named : (n : List ℕ) → IsName n → Reads true false n (Word n ∷ [])
 named n h = record {

@@ -11,7 +11,6 @@ use Rattle.c_tree.specs.declared.item.Target.TheVariants.{Byte, Struct}
 use Rattle.c_text.specs.SeenToken.{Seen, Bare}
 use Rattle.c_tree.specs.Symbol.{keyword_in}
 use Rattle.c_text.specs.Directive.{Line, text, word_of}
-use Rattle.cg_out.specs.Words.{or_else}
 use Rattle.c_text.specs.MacroDefinition.{first_by, body_by, body_of}
 use Rattle.c_text.specs.Preprocessing.{each_behind, put_for, body_for, kind_by, replaced_by, replaced_word, replaced, tokens_at}
 use Rattle.c_text.specs.BarePreprocessing.{seen_kinds}
@@ -24,9 +23,27 @@ use Rattle.c_printed.specs.PrintedExpression.{comma, tokens_of, all_tokens}
 use Rattle.c_printed.specs.PrintedStatement.{value_tokens, result_tokens, label_tokens, action_tokens, actions_tokens, parts_tokens}
 use Rattle.c_printed.specs.PrintedItem.{const_tokens, target_tokens, named_tokens, fields_tokens, params_tokens, all_params_tokens, static_tokens, head_tokens, body_tokens, item_tokens}
 use Rattle.c_printed.specs.Expanded.{Meaning, expanded, expanded_all, expanded_option, expanded_action, expanded_actions, expanded_parts, expanded_body, expanded_item}
-use Rattle.c_printed.specs.Settled.{Becomes, settle, settled, chosen, word_behind, Stands, KeywordsStand, Settles, SettleAll, SettlesOption, SettlesAction, SettleActions, SettleParts, TargetStands, KindStands, NamedStands, SettlesBody, SettlesHead, SettlesItem}
+use Rattle.c_printed.specs.Settled.{Becomes, settle, settled, Stands, Settles, SettleAll, SettlesOption, SettlesAction, SettleActions, SettleParts, TargetStands, KindStands, NamedStands, SettlesBody, SettlesHead, SettlesItem}
+use Rattle.cg_out.proofs.WordLaws.{or_else-none}
+use Rattle.c_printed.proofs.SmallLaws.{kinds-append}
 use Rattle.c_printed.proofs.ItemLines.{flat}
 use Rattle.c_tree.specs.BareStatement as a
+
+-- ---- what becomes of a word
+
+-- by the body of a macro, or by the kind that a header gives
+abbrev pub chosen : {P : Type 0} → List ℕ → Option (List (Seen P)) → Option TokenKind → List TokenKind
+chosen w (Some body) k = seen_kinds body
+chosen w None (Some k) = k ∷ []
+chosen w None None = Word w ∷ []
+
+-- behind the lines that were read
+abbrev pub word_behind : {P : Type 0} → List (Line P) → Becomes
+word_behind before w = chosen w (body_of w before) (first_by (kind_by w) before)
+
+-- keywords are no macros
+abbrev pub KeywordsStand : Becomes → Type 0
+KeywordsStand env = (w : List ℕ) → is_some (keyword_in w) ≡ true → Stands env w
 
 -- ---- replaced tokens, by their kinds
 
@@ -53,10 +70,6 @@ module _ {P : Type 0} where
   one-kinds before t Null e = ap (λ k. k ∷ []) e
   one-kinds before t Memset e = ap (λ k. k ∷ []) e
 
-  kinds-append : (xs ys : List (Seen P)) → seen_kinds (xs ++ ys) ≡ seen_kinds xs ++ seen_kinds ys
-  kinds-append [] ys = refl
-  kinds-append (x ∷ xs) ys = ap (λ ks. x.kind ∷ ks) (kinds-append xs ys)
-
   pub replaced-kinds : (before : List (Line P)) (ts : List (Seen P)) → seen_kinds (replaced before ts) ≡ settled (word_behind before) (seen_kinds ts)
   replaced-kinds before [] = refl
   replaced-kinds before (t ∷ ts) =
@@ -65,15 +78,11 @@ module _ {P : Type 0} where
 
 -- ---- lines of text change no name
 
-or-none : {X : Type 0} (x : Option X) → or_else x None ≡ x
-or-none (Some x) = refl
-or-none None = refl
-
 text-body : (before : List (Line (Unit {0}))) (ts : List Bare) (w : List ℕ) → body_of w (before ++ text ts ∷ []) ≡ body_of w before
-text-body before ts w = first_by-append (body_by w) before (text ts ∷ []) ∙ or-none (body_of w before)
+text-body before ts w = first_by-append (body_by w) before (text ts ∷ []) ∙ or_else-none (body_of w before)
 
 text-kind : (before : List (Line (Unit {0}))) (ts : List Bare) (w : List ℕ) → first_by (kind_by w) (before ++ text ts ∷ []) ≡ first_by (kind_by w) before
-text-kind before ts w = first_by-append (kind_by w) before (text ts ∷ []) ∙ or-none (first_by (kind_by w) before)
+text-kind before ts w = first_by-append (kind_by w) before (text ts ∷ []) ∙ or_else-none (first_by (kind_by w) before)
 
 text-word : (before : List (Line (Unit {0}))) (ts : List Bare) → word_behind (before ++ text ts ∷ []) ≡ word_behind before
 text-word before ts = λ i w. chosen w (text-body before ts w i) (text-kind before ts w i)

@@ -31,7 +31,8 @@ use Rattle.c_text.proofs.Constants.{IsSuffix, IsSuffixOfZero, constant, digits-g
 use Rattle.c_text.proofs.Marks.{extends, kinds-part, kinds-whole}
 use Rattle.c_printed.specs.Spelling.{sign_text, operator_text, assign_text, between, suffix_text, hex_width, hex_digits, value_text, constant_text, plain_words, sign_letter, width_text, type_words, spaced, type_text, words, callee_text}
 use Rattle.c_printed.specs.Printable.{IsBase, eight, ten, sixteen, IsWidth, w8, w16, w32, w64, IsConstant, IsType, IsFreeCallee}
-use Rattle.c_printed.proofs.Pieces.{Reads, joined, then, given, named, stops, fine, all-append, not-stops}
+use Rattle.c_printed.proofs.Pieces.{Reads, joined, then, given, named, stops, fine}
+use Rattle.c_printed.proofs.SmallLaws.{not-true, passes-append}
 use Rattle.c_text.specs.declared.token.IntType.TheVariants as int
 use Rattle.c_tree.specs.declared.expression.UnaryOp.TheVariants as sign
 use Rattle.c_tree.specs.declared.expression.BinaryOp.TheVariants as op
@@ -125,7 +126,7 @@ signed g u x ks e p = record {
   lexemes = token (Mark (sign_text u)) ∷ p.lexemes;
   cut = λ rest f.
       ap (kinds 0) (append_assoc (sign_text u) x rest) ∙ e rest ∙ ap (λ ls. token (Mark (sign_text u)) ∷ ls) (p.cut rest f);
-  clean = all-append (fine true) (token (Mark (sign_text u)) ∷ []) p.lexemes (sign-clean u) p.clean;
+  clean = passes-append (fine true) (token (Mark (sign_text u)) ∷ []) p.lexemes (sign-clean u) p.clean;
   are = ap (λ ls. Mark (sign_text u) ∷ ls) p.are;
   plain = pass-append is_plain (sign_text u) x (sign-plain u) p.plain;
 }
@@ -195,7 +196,7 @@ is-suffix false (suc (suc zero)) h = ll-suffix
 is-suffix u (suc (suc (suc n))) h = absurd (omega arith)
 
 stops-number : (rest : List ℕ) → stops rest ≡ true → first_passes goes_on_with_number rest ≡ false
-stops-number rest e = not-stops (first_passes goes_on_with_number rest) e
+stops-number rest e = not-true (first_passes goes_on_with_number rest) e
 
 -- digits with zeros before them
 zeros-all : (n : ℕ) (ds : List ℕ) → AllDigits 16 ds → AllDigits 16 (replicate n 48 ++ ds)

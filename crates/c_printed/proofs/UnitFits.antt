@@ -1,20 +1,35 @@
 -- The items that a printable unit leaves are printable.
-use Rattle.std.proofs.Common.{◌≡◌, ℕ, ◌^◌, ◌<◌, Bool, true, false, cond, List, [], ◌∷◌, ◌++◌, map, bytes_eq, Option, Some, None, subst, arith}
+use Rattle.std.proofs.Common.{◌≡◌, ℕ, ◌^◌, ◌<◌, Bool, true, false, cond, List, [], ◌∷◌, map, bytes_eq, Option, Some, None, subst, arith}
 use Rattle.std.specs.List.{AllByRecursion}
 use Rattle.cg_out.specs.Words.{look_up, or_else}
 use Rattle.c_text.specs.declared.token.TokenKind.{TokenKind}
 use Rattle.c_text.specs.declared.token.TokenKind.TheVariants.{Constant as Number}
 use Rattle.c_text.specs.StandardHeader.{Header, stdbool_h, stddef_h, stdint_h, string_h, names_of, kind_in}
 use Rattle.c_tree.specs.BareExpression.{Tree}
-use Rattle.c_tree.specs.BareUnit.{BareItem}
+use Rattle.c_tree.specs.BareUnit.{BareField, BareItem, struct, function}
 use Rattle.c_printed.specs.PrintedItem.{Field, field_of}
 use Rattle.c_printed.specs.PrintedUnit.{Part, comment, blank, include, include_beside, define, if_not_defined, end_if, structure, routine}
-use Rattle.c_printed.specs.Printable.{IsConstant, ten, Fits}
-use Rattle.c_printed.specs.PrintableItem.{IsField, IsSome, IsMember, IsSomeMember, FitsItem}
+use Rattle.c_printed.specs.Printable.{IsFree, IsConstant, ten, Fits}
+use Rattle.c_printed.specs.PrintableItem.{IsIntegerType, IsField, IsSome, IsHead, FitsBody}
 use Rattle.c_printed.specs.State.{Macro, State, nothing_known, kind_by_headers, tree_by, meaning, unless_known, new_macros, behind_part, behind_all, header_state}
 use Rattle.c_printed.specs.PrintableUnit.{IsBody, Right, AllRight, no_header, IsHeaderAt, IsSource}
 use Rattle.c_printed.specs.Reread.{items_at, items_of, header_items, source_items}
+use Rattle.c_printed.proofs.SmallLaws.{some-of, every-append}
 use Rattle.c_printed.proofs.ExpandedFits.{AreFitting, body-fits}
+
+-- ---- items without comments
+
+abbrev pub IsMember : BareField → Type 0
+IsMember f = IsIntegerType f.kind × IsFree f.name
+
+abbrev pub IsSomeMember : List BareField → Type 0
+IsSomeMember [] = ⊥
+IsSomeMember (f ∷ fs) = Unit {0}
+
+-- an item of the subset, in which all names are free
+abbrev pub FitsItem : BareItem → Type 0
+FitsItem (struct tag fs) = IsFree tag × IsSomeMember fs × AllByRecursion IsMember fs
+FitsItem (function h body) = IsHead h × FitsBody body
 
 -- ---- what names stand for is printable
 
@@ -34,11 +49,11 @@ entry-fits w (e ∷ es) h = by (bytes_eq e.0 w) (entry-fits w es h.1)
     by true k = h.0
     by false k = k
 
-truth-fits : (v : ℕ) → v < 2 ^ 64 → IsConstant (record { value = v; base = 10; unsigned = false; longs = 0 })
-truth-fits v h = record { small = h; base = ten; longs = omega arith }
+pub decimal-fits : (v : ℕ) (u : Bool) → v < 2 ^ 64 → IsConstant (record { value = v; base = 10; unsigned = u; longs = 0 })
+decimal-fits v u h = record { small = h; base = ten; longs = omega arith }
 
 names-fit : (h : Header) → AllByRecursion (λ (e : List ℕ × TokenKind). FitsKind e.1) (names_of h)
-names-fit stdbool_h = (tt, (truth-fits 1 (omega arith), (truth-fits 0 (omega arith), tt)))
+names-fit stdbool_h = (tt, (decimal-fits 1 false (omega arith), (decimal-fits 0 false (omega arith), tt)))
 names-fit stddef_h = (tt, (tt, tt))
 names-fit stdint_h = (tt, (tt, (tt, (tt, (tt, (tt, (tt, (tt, tt))))))))
 names-fit string_h = (tt, (tt, (tt, tt)))
@@ -71,9 +86,6 @@ macro-fits w (m ∷ ms) h = by (bytes_eq m.0 w) (macro-fits w ms h.1)
     by true k = h.0
     by false k = k
 
-some-of : {X : Type 0} {x y : X} → Some x ≡ Some y → x ≡ y
-some-of e = cc
-
 means-fits : (o : Option (Option Tree)) (k : Option TokenKind) (t : Tree) → IsEntry o → FitsFound k → tree_by o k ≡ Some t → Fits 0 t
 means-fits (Some (Some b)) k t h f e = subst (λ u. Fits 0 u) (some-of e) h.0
 means-fits (Some None) k t h f e = cc
@@ -98,14 +110,6 @@ some-members : (fs : List Field) → IsSome fs → IsSomeMember (map field_of fs
 some-members [] h = absurd h
 some-members (f ∷ fs) h = tt
 
-all-both : (is js : List BareItem) → AllByRecursion FitsItem is → AllByRecursion FitsItem js → AllByRecursion FitsItem (is ++ js)
-all-both [] js h k = k
-all-both (i ∷ is) js h k = (h.0, all-both is js h.1 k)
-
-all-bodies : (ms ns : List Macro) → AllByRecursion (λ (m : Macro). IsBody m.1) ms → AllByRecursion (λ (m : Macro). IsBody m.1) ns → AllByRecursion (λ (m : Macro). IsBody m.1) (ms ++ ns)
-all-bodies [] ns h k = k
-all-bodies (m ∷ ms) ns h k = (h.0, all-bodies ms ns h.1 k)
-
 -- what a quoted include leaves, where it may be read
 record BesideFits (given : State → Type 0) (behind : State → State) (items : State → List BareItem) : Type 0 where
   bodies : (s : State) → AreBodies s → given s → AreBodies (behind s)
@@ -117,7 +121,7 @@ module _ (beside : Option (List ℕ)) (given : State → Type 0) (behind : State
   part-bodies s blank b h = b
   part-bodies s (include n) b h = b
   part-bodies s (include_beside n) b h = x.bodies s b h.1
-  part-bodies s (define n body) b h = all-bodies s.macros (new_macros s (n, body)) b (known-bodies (look_up n s.macros) (n, body) h.1)
+  part-bodies s (define n body) b h = every-append (λ (m : Macro). IsBody m.1) s.macros (new_macros s (n, body)) b (known-bodies (look_up n s.macros) (n, body) h.1)
   part-bodies s (if_not_defined n) b h = b
   part-bodies s end_if b h = b
   part-bodies s (structure tag fs) b h = b
@@ -140,7 +144,7 @@ module _ (beside : Option (List ℕ)) (given : State → Type 0) (behind : State
 
   parts-fit : (s : State) (ps : List Part) → AreBodies s → AllRight beside given behind s ps → AllByRecursion FitsItem (items_of behind items s ps)
   parts-fit s [] b h = tt
-  parts-fit s (p ∷ ps) b h = all-both (items_at items s p) (items_of behind items (behind_part behind s p) ps) (part-fits s p b h.0) (parts-fit (behind_part behind s p) ps (part-bodies s p b h.0) h.1)
+  parts-fit s (p ∷ ps) b h = every-append FitsItem (items_at items s p) (items_of behind items (behind_part behind s p) ps) (part-fits s p b h.0) (parts-fit (behind_part behind s p) ps (part-bodies s p b h.0) h.1)
 
 -- ---- units
 

@@ -7,11 +7,11 @@ use Rattle.c_tree.specs.BareUnit.{BareItem}
 use Rattle.c_text.proofs.TextLines.{texts-lines}
 use Rattle.c_printed.specs.PrintedUnit.{Part, unit_text}
 use Rattle.c_printed.specs.State.{State, nothing_known, header_state, Macro}
-use Rattle.c_printed.specs.Reread.{header_items, source_items, header_macros, source_macros, items_tokens, macro_tokens}
+use Rattle.c_printed.specs.Reread.{header_items, source_items, header_macros, source_macros, macro_tokens}
 use Rattle.c_printed.specs.PrintableUnit.{no_header, IsHeaderAt, IsSource}
 use Rattle.c_printed.proofs.PartLines.{BareLine, unit_lines, unit-lines}
 use Rattle.c_printed.proofs.ReadLines.{kept, balanced-is, lines-read}
-use Rattle.c_printed.proofs.UnitReading.{Agrees, Gives, Beside, parts-unasked, parts-agree, parts-give}
+use Rattle.c_printed.proofs.UnitReading.{items_tokens, Agrees, Gives, Beside, parts-unasked, parts-agree, parts-give}
 
 -- ---- the header
 

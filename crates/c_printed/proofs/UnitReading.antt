@@ -1,6 +1,7 @@
 -- What preprocessing leaves of the parts of a unit: the tokens of its items with names replaced, and its macros.
 use Rattle.std.proofs.Common.{◌≡◌, ℕ, Bool, true, false, cond, List, [], ◌∷◌, ◌++◌, map, bytes_eq, Option, Some, None, option_map, is_some, ◌&&◌, ◌==◌, refl, sym, ap, subst, ◌∙◌, append_assoc, append-nil, arith}
 use Rattle.std.specs.List.{AllByRecursion}
+use Rattle.std.proofs.lemmas.Bool.{false≢true}
 use Rattle.std.proofs.lemmas.List.{map-append}
 use Rattle.std.proofs.lemmas.Slice.Eq.{bytes_eq-Decides}
 use Rattle.c_text.specs.declared.token.TokenKind.{TokenKind}
@@ -25,25 +26,19 @@ use Rattle.c_printed.specs.Spelling.{left, written}
 use Rattle.c_printed.specs.PrintedUnit.{Part, comment, blank, include, include_beside, define, if_not_defined, end_if, structure, routine}
 use Rattle.c_printed.specs.PrintedItem.{struct_text, function_text, struct_tokens, head_tokens, item_tokens, field_of, body_tokens as function_body_tokens}
 use Rattle.c_printed.specs.Expanded.{expanded_item}
-use Rattle.c_printed.specs.Settled.{settled, chosen, word_behind, KeywordsStand, SettlesItem}
+use Rattle.c_printed.specs.Settled.{settled, SettlesItem}
 use Rattle.c_printed.specs.State.{State, kind_by_headers, macro_body, word_by, becomes, meaning, header_named, listed, unless_known, with_macros, with_headers, behind_part, behind_all, Macro}
-use Rattle.c_printed.specs.Reread.{items_at, items_of, macros_of, macros_at as part_macros, items_tokens, macro_tokens}
+use Rattle.c_printed.specs.Reread.{items_at, items_of, macros_of, macros_at as part_macros, macro_tokens}
 use Rattle.c_printed.specs.PrintableUnit.{IsBody, IsSame, Right, AllRight}
+use Rattle.cg_out.proofs.WordLaws.{or_else-none, or_else-assoc, or_else-map}
+use Rattle.c_printed.proofs.SmallLaws.{some-of, kinds-append}
 use Rattle.c_printed.proofs.ItemLines.{flat}
 use Rattle.c_printed.proofs.ItemLaw.{reads-struct, reads-function}
-use Rattle.c_printed.proofs.SettledLaw.{item-settled, texts-settled}
+use Rattle.c_printed.proofs.SettledLaw.{chosen, word_behind, KeywordsStand, item-settled, texts-settled}
 use Rattle.c_printed.proofs.PartLines.{BareLine, groups_of, body_bares, body-kinds, item-kinds}
 use Rattle.c_printed.proofs.ReadLines.{kept_part, kept, Unasked, AllUnasked}
 
 -- ---- first entries
-
-or-none : {X : Type 0} (x : Option X) → or_else x None ≡ x
-or-none (Some x) = refl
-or-none None = refl
-
-or-map : {X Y : Type 0} (f : X → Y) (x y : Option X) → option_map f (or_else x y) ≡ or_else (option_map f x) (option_map f y)
-or-map f (Some x) y = refl
-or-map f None y = refl
 
 entry-append : {A : Type 0} (w : List ℕ) (xs ys : List (List ℕ × A)) → look_up w (xs ++ ys) ≡ or_else (look_up w xs) (look_up w ys)
 entry-append w [] ys = refl
@@ -55,11 +50,7 @@ entry-append w (x ∷ xs) ys = first (bytes_eq x.0 w) (entry-append w xs ys)
 
 headers-append : (w : List ℕ) (xs ys : List Header) → kind_by_headers w (xs ++ ys) ≡ or_else (kind_by_headers w xs) (kind_by_headers w ys)
 headers-append w [] ys = refl
-headers-append w (h ∷ hs) ys = ap (or_else (kind_in h w)) (headers-append w hs ys) ∙ assoc (kind_in h w) (kind_by_headers w hs) (kind_by_headers w ys)
-  where
-    assoc : (x y z : Option TokenKind) → or_else x (or_else y z) ≡ or_else (or_else x y) z
-    assoc (Some x) y z = refl
-    assoc None y z = refl
+headers-append w (h ∷ hs) ys = ap (or_else (kind_in h w)) (headers-append w hs ys) ∙ sym (or_else-assoc (kind_in h w) (kind_by_headers w hs) (kind_by_headers w ys))
 
 -- ---- what is known of names, by lines and by the state
 
@@ -69,10 +60,7 @@ pub record Agrees (before : List BareLine) (s : State) : Type 0 where
   pub keywords : (w : List ℕ) → is_some (keyword_in w) ≡ true → look_up w s.macros ≡ None
 
 choose-word : (w : List ℕ) (x : Option (List Bare)) (y : Option (Option Tree)) (k : Option TokenKind) → option_map seen_kinds x ≡ option_map macro_body y → chosen w x k ≡ word_by w y k
-choose-word w (Some b) (Some t) k e = same e
-  where
-    same : {X : Type 0} {a c : X} → Some a ≡ Some c → a ≡ c
-    same e = cc
+choose-word w (Some b) (Some t) k e = some-of e
 choose-word w (Some b) None k e = cc
 choose-word w None (Some t) k e = cc
 choose-word w None None (Some k) e = refl
@@ -92,8 +80,8 @@ no-macro before s n a e = still-some (body_of n before) (look_up n s.macros) (a.
 -- lines that give nothing
 agree-texts : (before : List BareLine) (s : State) (gs : List (List Bare)) → Agrees before s → Agrees (before ++ map text gs) s
 agree-texts before s gs a = record {
-  bodies = λ w. ap (option_map seen_kinds) (first_by-append (body_by w) before (map text gs) ∙ ap (or_else (body_of w before)) (nothing-by (body_by w) (λ g. refl) gs) ∙ or-none (body_of w before)) ∙ a.bodies w;
-  kinds = λ w. first_by-append (kind_by w) before (map text gs) ∙ ap (or_else (first_by (kind_by w) before)) (nothing-by (kind_by w) (λ g. refl) gs) ∙ or-none (first_by (kind_by w) before) ∙ a.kinds w;
+  bodies = λ w. ap (option_map seen_kinds) (first_by-append (body_by w) before (map text gs) ∙ ap (or_else (body_of w before)) (nothing-by (body_by w) (λ g. refl) gs) ∙ or_else-none (body_of w before)) ∙ a.bodies w;
+  kinds = λ w. first_by-append (kind_by w) before (map text gs) ∙ ap (or_else (first_by (kind_by w) before)) (nothing-by (kind_by w) (λ g. refl) gs) ∙ or_else-none (first_by (kind_by w) before) ∙ a.kinds w;
   keywords = a.keywords;
 }
   where
@@ -108,7 +96,7 @@ agree-header before s None a = record {
   keywords = a.keywords;
 }
 agree-header before s (Some h) a = record {
-  bodies = λ w. ap (option_map seen_kinds) (first_by-append (body_by w) before (standard h ∷ []) ∙ or-none (body_of w before)) ∙ a.bodies w;
+  bodies = λ w. ap (option_map seen_kinds) (first_by-append (body_by w) before (standard h ∷ []) ∙ or_else-none (body_of w before)) ∙ a.bodies w;
   kinds = λ w. first_by-append (kind_by w) before (standard h ∷ []) ∙ ap (λ x. or_else x (or_else (kind_in h w) None)) (a.kinds w) ∙ sym (headers-append w s.headers (h ∷ []));
   keywords = a.keywords;
 }
@@ -117,11 +105,11 @@ agree-new : (before : List BareLine) (s : State) (n : List ℕ) (body : Option T
 agree-new before s n body a free h = record {
   bodies = λ w.
       ap (option_map seen_kinds) (first_by-append (body_by w) before (define_line tt n (body_bares body) ∷ []))
-      ∙ or-map seen_kinds (body_of w before) (or_else (cond (bytes_eq n w) (Some (body_bares body)) None) None)
+      ∙ sym (or_else-map seen_kinds (body_of w before) (or_else (cond (bytes_eq n w) (Some (body_bares body)) None) None))
       ∙ (λ i. or_else (a.bodies w i) (one (bytes_eq n w) i))
-      ∙ sym (or-map macro_body (look_up w s.macros) (cond (bytes_eq n w) (Some body) None))
+      ∙ or_else-map macro_body (look_up w s.macros) (cond (bytes_eq n w) (Some body) None)
       ∙ ap (option_map macro_body) (sym (entry-append w s.macros ((n, body) ∷ [])));
-  kinds = λ w. first_by-append (kind_by w) before (define_line tt n (body_bares body) ∷ []) ∙ or-none (first_by (kind_by w) before) ∙ a.kinds w;
+  kinds = λ w. first_by-append (kind_by w) before (define_line tt n (body_bares body) ∷ []) ∙ or_else-none (first_by (kind_by w) before) ∙ a.kinds w;
   keywords = λ w e. entry-append w s.macros ((n, body) ∷ []) ∙ ap (λ x. or_else x (cond (bytes_eq n w) (Some body) None)) (a.keywords w e) ∙ other w e (bytes_eq n w) refl;
 }
   where
@@ -133,10 +121,7 @@ agree-new before s n body a free h = record {
     other w e true f = absurd (no-keyword w e (sym (ap keyword_in ((bytes_eq-Decides n w).0 f)) ∙ free))
       where
         no-keyword : (w : List ℕ) → is_some (keyword_in w) ≡ true → keyword_in w ≡ None → ⊥
-        no-keyword w e f = clash (ap (λ (o : Option Keyword). is_some o) (sym f) ∙ e)
-          where
-            clash : false ≡ true → ⊥
-            clash e = cc
+        no-keyword w e f = false≢true (ap (λ (o : Option Keyword). is_some o) (sym f) ∙ e)
     other w e false f = refl
 
 -- a name that has a body keeps it
@@ -146,7 +131,7 @@ some-first None y z e = cc
 
 keeps-body : (before : List BareLine) (n w : List ℕ) (bs : List Bare) (b : Bool) → bytes_eq n w ≡ b → is_some (body_of n before) ≡ true → or_else (body_of w before) (or_else (cond b (Some bs) None) None) ≡ body_of w before
 keeps-body before n w bs true e h = some-first (body_of w before) None (Some bs) (subst (λ v. is_some (body_of v before) ≡ true) ((bytes_eq-Decides n w).0 e) h)
-keeps-body before n w bs false e h = or-none (body_of w before)
+keeps-body before n w bs false e h = or_else-none (body_of w before)
 
 both-some : {X Y Z : Type 0} (f : X → Z) (g : Y → Z) (x : Option X) (y : Y) → option_map f x ≡ option_map g (Some y) → is_some x ≡ true
 both-some f g (Some x) y e = refl
@@ -159,7 +144,7 @@ agree-again before s n body first a e =
       bodies = λ w.
           ap (option_map seen_kinds) (first_by-append (body_by w) before (define_line tt n (body_bares body) ∷ []) ∙ keeps-body before n w (body_bares body) (bytes_eq n w) refl has)
           ∙ a.bodies w ∙ ap (λ ms. option_map macro_body (look_up w ms)) (sym (append-nil s.macros));
-      kinds = λ w. first_by-append (kind_by w) before (define_line tt n (body_bares body) ∷ []) ∙ or-none (first_by (kind_by w) before) ∙ a.kinds w;
+      kinds = λ w. first_by-append (kind_by w) before (define_line tt n (body_bares body) ∷ []) ∙ or_else-none (first_by (kind_by w) before) ∙ a.kinds w;
       keywords = λ w k. ap (look_up w) (append-nil s.macros) ∙ a.keywords w k;
     }
 
@@ -178,10 +163,7 @@ apart w (e ∷ es) h k = by (bytes_eq e.0 w) refl (apart w es h.1 k)
     by true f g = clash (ap (λ (o : Option Keyword). is_some o) (sym (ap keyword_in ((bytes_eq-Decides e.0 w).0 f)) ∙ h.0))
       where
         clash : is_some (keyword_in w) ≡ false → Some e.1 ≡ None
-        clash g = absurd (no (sym g ∙ k))
-          where
-            no : false ≡ true → ⊥
-            no e = cc
+        clash g = absurd (false≢true (sym g ∙ k))
     by false f g = g
 
 abbrev NoKeywords : List (List ℕ × TokenKind) → Type 0
@@ -207,6 +189,11 @@ keywords-stand before s a = λ w k. (λ i. word_by w (a.keywords w k i) (no-kind
 
 -- ---- lines that are read behind others
 
+-- the tokens of items, with names as they are left
+abbrev pub items_tokens : List BareItem → List TokenKind
+items_tokens [] = []
+items_tokens (i ∷ is) = item_tokens left i ++ items_tokens is
+
 -- they have no fault, leave the tokens of these items, and define these macros
 pub record Gives (before new : List BareLine) (items : List BareItem) (macros : List Macro) : Type 0 where
   pub faults : each_behind faults_at before new ≡ []
@@ -216,10 +203,6 @@ pub record Gives (before new : List BareLine) (items : List BareItem) (macros : 
 pub gives-nothing : (before : List BareLine) → Gives before [] [] []
 gives-nothing before = record { faults = refl; tokens = refl; defined = refl }
 
-seen-append : (xs ys : List Bare) → seen_kinds (xs ++ ys) ≡ seen_kinds xs ++ seen_kinds ys
-seen-append [] ys = refl
-seen-append (x ∷ xs) ys = ap (λ ks. x.kind ∷ ks) (seen-append xs ys)
-
 items-append : (is js : List BareItem) → items_tokens (is ++ js) ≡ items_tokens is ++ items_tokens js
 items-append [] js = refl
 items-append (i ∷ is) js = ap (λ ks. item_tokens left i ++ ks) (items-append is js) ∙ sym (append_assoc (item_tokens left i) (items_tokens is) (items_tokens js))
@@ -228,7 +211,7 @@ pub gives-append : (before a b : List BareLine) (is js : List BareItem) (ms ns :
 gives-append before a b is js ms ns x y = record {
   faults = each_behind-append faults_at before a b ∙ (λ i. x.faults i ++ y.faults i);
   tokens =
-      ap seen_kinds (each_behind-append tokens_at before a b) ∙ seen-append (each_behind tokens_at before a) (each_behind tokens_at (before ++ a) b)
+      ap seen_kinds (each_behind-append tokens_at before a b) ∙ kinds-append (each_behind tokens_at before a) (each_behind tokens_at (before ++ a) b)
       ∙ (λ i. x.tokens i ++ y.tokens i) ∙ sym (items-append is js);
   defined =
       ap (map named_kinds) (each_behind-append macros_at before a b) ∙ map-append named_kinds (each_behind macros_at before a) (each_behind macros_at (before ++ a) b)

@@ -7,7 +7,7 @@ use Rattle.c_tree.specs.declared.item.Target.{Target}
 use Rattle.c_tree.specs.declared.item.Target.TheVariants.{Byte, Struct}
 use Rattle.c_text.specs.Characters.{Pass}
 use Rattle.c_tree.specs.BareStatement.{Actions}
-use Rattle.c_tree.specs.BareUnit.{BareField, BareHead, BareItem, struct, function}
+use Rattle.c_tree.specs.BareUnit.{BareField, BareHead}
 use Rattle.c_printed.specs.PrintedItem.{Field}
 use Rattle.c_printed.specs.Printable.{IsFree, IsType, FitActions}
 
@@ -55,17 +55,3 @@ IsSome (f ∷ fs) = Unit {0}
 abbrev pub FitsBody : Option Actions → Type 0
 FitsBody None = Unit {0}
 FitsBody (Some list) = FitActions false list
-
--- ---- without comments
-
-abbrev pub IsMember : BareField → Type 0
-IsMember f = IsIntegerType f.kind × IsFree f.name
-
-abbrev pub IsSomeMember : List BareField → Type 0
-IsSomeMember [] = ⊥
-IsSomeMember (f ∷ fs) = Unit {0}
-
--- an item of the subset, in which all names are free
-abbrev pub FitsItem : BareItem → Type 0
-FitsItem (struct tag fs) = IsFree tag × IsSomeMember fs × AllByRecursion IsMember fs
-FitsItem (function h body) = IsHead h × FitsBody body

@@ -2,8 +2,7 @@
 use Rattle.std.specs.Prelude.{ℕ, List, [], ◌∷◌, ◌++◌, map}
 use Rattle.c_text.specs.declared.token.TokenKind.{TokenKind}
 use Rattle.c_tree.specs.BareUnit.{BareItem, struct, function}
-use Rattle.c_printed.specs.Spelling.{left}
-use Rattle.c_printed.specs.PrintedItem.{field_of, item_tokens}
+use Rattle.c_printed.specs.PrintedItem.{field_of}
 use Rattle.c_printed.specs.PrintedUnit.{Part, include_beside, define, structure, routine}
 use Rattle.c_printed.specs.Expanded.{expanded_item}
 use Rattle.c_printed.specs.State.{Macro, State, nothing_known, meaning, macro_body, new_macros, behind_part, header_state}
@@ -45,11 +44,7 @@ header_macros header s = macros_of (λ t. t) (λ t. []) s header
 abbrev pub source_macros : List Part → List Part → List Macro
 source_macros header source = macros_of (header_state header) (header_macros header) nothing_known source
 
--- ---- as tokens
-
-abbrev pub items_tokens : List BareItem → List TokenKind
-items_tokens [] = []
-items_tokens (i ∷ is) = item_tokens left i ++ items_tokens is
+-- ---- a macro as tokens
 
 abbrev pub macro_tokens : Macro → List ℕ × List TokenKind
 macro_tokens m = (m.0, macro_body m.1)

@@ -1,5 +1,5 @@
 -- What preprocessing leaves of words, and in which trees it leaves what the tree expanded says.
-use Rattle.std.specs.Prelude.{◌≡◌, ℕ, true, false, List, [], ◌∷◌, ◌++◌, codes, Option, Some, None, is_some}
+use Rattle.std.specs.Prelude.{◌≡◌, ℕ, false, List, [], ◌∷◌, ◌++◌, codes, Option, Some, None}
 use Rattle.std.specs.List.{AllByRecursion}
 use Rattle.c_text.specs.declared.token.Spelled.{Spelled}
 use Rattle.c_text.specs.declared.token.Spelled.TheVariants.{Exact}
@@ -10,12 +10,6 @@ use Rattle.c_tree.specs.declared.item.CType.{CType}
 use Rattle.c_tree.specs.declared.item.CType.TheVariants.{Void, Integer, Pointer}
 use Rattle.c_tree.specs.declared.item.Target.{Target}
 use Rattle.c_tree.specs.declared.item.Target.TheVariants.{Byte, Struct}
-use Rattle.c_text.specs.SeenToken.{Seen}
-use Rattle.c_tree.specs.Symbol.{keyword_in}
-use Rattle.c_text.specs.Directive.{Line}
-use Rattle.c_text.specs.MacroDefinition.{first_by, body_of}
-use Rattle.c_text.specs.Preprocessing.{kind_by}
-use Rattle.c_text.specs.BarePreprocessing.{seen_kinds}
 use Rattle.c_tree.specs.BareExpression.{Tree, Trees, constant, name, null, member, element, call, unary, cast, binary, bracket, none, more}
 use Rattle.c_tree.specs.BareStatement.{Action, Actions, Parts, declare, assign, discard, empty, block, when, choose, return, break, switch, no_more, then, done, label, statement}
 use Rattle.c_tree.specs.BareUnit.{BareField, BareHead, BareItem, struct, function}
@@ -37,16 +31,6 @@ settle env k = k ∷ []
 abbrev pub settled : Becomes → List TokenKind → List TokenKind
 settled env [] = []
 settled env (k ∷ ks) = settle env k ++ settled env ks
-
--- by the body of a macro, or by the kind that a header gives
-abbrev pub chosen : {P : Type 0} → List ℕ → Option (List (Seen P)) → Option TokenKind → List TokenKind
-chosen w (Some body) k = seen_kinds body
-chosen w None (Some k) = k ∷ []
-chosen w None None = Word w ∷ []
-
--- behind the lines that were read
-abbrev pub word_behind : {P : Type 0} → List (Line P) → Becomes
-word_behind before w = chosen w (body_of w before) (first_by (kind_by w) before)
 
 -- ---- trees
 
@@ -70,10 +54,6 @@ IsAtom (Some t) = ⊥
 abbrev pub AimsAt : Meaning → Tree → Type 0
 AimsAt m (name n) = m n ≡ None
 AimsAt m t = Unit {0}
-
--- keywords are no macros
-abbrev pub KeywordsStand : Becomes → Type 0
-KeywordsStand env = (w : List ℕ) → is_some (keyword_in w) ≡ true → Stands env w
 
 abbrev mutual
   pub Settles : Becomes → Meaning → Tree → Type 0

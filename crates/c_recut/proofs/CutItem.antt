@@ -37,11 +37,13 @@ use Rattle.c_parts.proofs.ExpressionParts.{closed-none, closed-flat, closed-appe
 use Rattle.c_parts.proofs.StatementParts.{skip-over, first_outside-append, first_outside-at, brace-opens, brace-closes}
 use Rattle.c_printed.specs.Spelling.{left_type, left}
 use Rattle.c_printed.specs.PrintedItem.{const_tokens, target_tokens, named_tokens, fields_tokens, struct_tokens, params_tokens, all_params_tokens}
-use Rattle.c_printed.specs.PrintableItem.{IsTarget, IsParameterType, IsParameter, IsIntegerType, IsMember, IsSomeMember}
+use Rattle.c_printed.specs.PrintableItem.{IsTarget, IsParameterType, IsParameter, IsIntegerType}
 use Rattle.c_printed.specs.Printable.{IsFree}
-use Rattle.c_recut.proofs.Tokens.{head-of, nil-of, one-of, split-of, between-of, every-append, every-is}
+use Rattle.c_printed.proofs.UnitFits.{IsMember, IsSomeMember}
+use Rattle.c_printed.proofs.SmallLaws.{and-false, every-append}
+use Rattle.c_recut.proofs.Tokens.{head-of, nil-of, one-of, split-of, between-of, every-is}
 use Rattle.c_recut.proofs.Types.{type-all, type-first, free_key, typed-of}
-use Rattle.c_recut.proofs.Quiet.{NoSemicolon, none-outside, and-false}
+use Rattle.c_recut.proofs.Quiet.{NoSemicolon, none-outside}
 use Rattle.c_recut.proofs.CutExpression.{name-is, marks, mark-is}
 use Rattle.c_recut.proofs.CutSimple.{keys, keyword-flat}
 use Rattle.c_tree.specs.declared.symbol.Keyword.TheVariants as key

@@ -2,6 +2,7 @@
 use Rattle.std.proofs.Common.{◌≡◌, ℕ, zero, suc, Bool, true, false, not, List, [], ◌∷◌, ◌++◌, map, Option, Some, None, Ok, refl, sym, ap, subst, ◌∙◌, arith, append_assoc}
 use Rattle.std.specs.Prelude.{codes, ◌&&◌}
 use Rattle.std.specs.List.{AllByRecursion}
+use Rattle.std.proofs.lemmas.Bool.{false≢true}
 use Rattle.c_text.specs.declared.place.Place.{Place}
 use Rattle.c_text.specs.declared.token.Token.{Token}
 use Rattle.c_text.specs.declared.token.TokenKind.{TokenKind}
@@ -37,7 +38,8 @@ use Rattle.c_printed.specs.PrintedExpression.{tokens_of, all_tokens}
 use Rattle.c_printed.specs.PrintedStatement.{value_tokens, result_tokens, action_tokens, actions_tokens, parts_tokens}
 use Rattle.c_printed.specs.Printable.{IsFreeCallee, IsCase, Fits, is_declaration, FitsAction, FitsBlock, FitActions, FitParts, is_target as is_target_tree}
 use Rattle.c_printed.specs.Within.{Within, ActionWithin, ActionsWithin, PartsWithin}
-use Rattle.c_recut.proofs.Tokens.{head-of, nil-of, one-of, split-of, between-of, every-append}
+use Rattle.c_printed.proofs.SmallLaws.{every-append}
+use Rattle.c_recut.proofs.Tokens.{head-of, nil-of, one-of, split-of, between-of}
 use Rattle.c_recut.proofs.Types.{type-first}
 use Rattle.c_recut.proofs.CutExpression.{prefix-is, cut-tree, marks, mark-is}
 use Rattle.c_recut.proofs.CutSimple.{StatementAs, MadeAs, Begins, keys, with-semicolon, made-return, made-break, made-declare, made-discard, made-call, made-assign, assign-semicolon}
@@ -242,9 +244,6 @@ first-kind first others ts ks is h = ap (λ us. head_kind (kinds_of us)) (sym is
 
 -- ---- the law
 
-no : false ≡ true → ⊥
-no e = cc
-
 bare-labels : (v : Expr) (t : Tree) (p : Place) (qs : List SwitchPart) (ps : Parts) → bare_expression v ≡ t → parts_of (map bare_switch_part qs) ≡ ps → parts_of (map bare_switch_part (Label (Some v) p ∷ qs)) ≡ label (Some t) ps
 bare-labels v t p qs ps e f = (λ j. before (bare-label (Some v) p j) (f j)) ∙ ap (λ u. label (Some u) ps) e
 
@@ -274,13 +273,13 @@ mutual
   cut-action may room (assign (member b f) o v) ts h i q = cut-assign may room (member b f) o v b _ ts refl h.1.0.1 h.0 h.1 i.0 h.2 i.1 q
   cut-action may zero (assign (element b x) o v) ts h i q = absurd i.0
   cut-action may (suc room) (assign (element b x) o v) ts h i q = cut-assign may (suc room) (element b x) o v b _ ts refl h.1.0.1 h.0 h.1 i.0 h.2 i.1 q
-  cut-action may room (assign (constant c) o v) ts h i q = absurd (no h.0)
-  cut-action may room (assign null o v) ts h i q = absurd (no h.0)
-  cut-action may room (assign (t.call f us) o v) ts h i q = absurd (no h.0)
-  cut-action may room (assign (unary u x) o v) ts h i q = absurd (no h.0)
-  cut-action may room (assign (cast to x) o v) ts h i q = absurd (no h.0)
-  cut-action may room (assign (binary p l r) o v) ts h i q = absurd (no h.0)
-  cut-action may room (assign (bracket x) o v) ts h i q = absurd (no h.0)
+  cut-action may room (assign (constant c) o v) ts h i q = absurd (false≢true h.0)
+  cut-action may room (assign null o v) ts h i q = absurd (false≢true h.0)
+  cut-action may room (assign (t.call f us) o v) ts h i q = absurd (false≢true h.0)
+  cut-action may room (assign (unary u x) o v) ts h i q = absurd (false≢true h.0)
+  cut-action may room (assign (cast to x) o v) ts h i q = absurd (false≢true h.0)
+  cut-action may room (assign (binary p l r) o v) ts h i q = absurd (false≢true h.0)
+  cut-action may room (assign (bracket x) o v) ts h i q = absurd (false≢true h.0)
   cut-action may zero (a.call f us) ts h i q = absurd i
   cut-action may (suc room) (a.call f us) ts h i q =
       let row = left_callee f ∷ Mark (codes "(") ∷ (all_tokens left true us ++ Mark (codes ")") ∷ []) in

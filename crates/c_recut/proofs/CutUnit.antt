@@ -11,8 +11,8 @@ use Rattle.c_tree.specs.UnitCut.{each_item, unless_unmatched, whole, unit_of_tok
 use Rattle.c_tree.specs.BareUnit.{BareItem, struct, function, bare_item, bare_unit}
 use Rattle.c_printed.specs.Spelling.{left}
 use Rattle.c_printed.specs.PrintedItem.{item_tokens}
-use Rattle.c_printed.specs.Reread.{items_tokens}
-use Rattle.c_printed.specs.PrintableItem.{FitsItem}
+use Rattle.c_printed.proofs.UnitReading.{items_tokens}
+use Rattle.c_printed.proofs.UnitFits.{FitsItem}
 use Rattle.c_printed.specs.Within.{ItemWithin}
 use Rattle.c_recut.proofs.Tokens.{nil-of, split-of}
 use Rattle.c_recut.proofs.CutItem.{ItemAs, all-one, cut-struct}

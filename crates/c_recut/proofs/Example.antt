@@ -22,13 +22,14 @@ use Rattle.c_tree.specs.BareExpression as e
 use Rattle.c_tree.specs.BareStatement.{Actions, declare, assign, call, block, when, return, no_more, then}
 use Rattle.c_tree.specs.BareUnit.{BareHead, BareItem, struct, function}
 use Rattle.c_printed.specs.PrintedUnit.{Part, comment, blank, include, include_beside, define, if_not_defined, end_if, structure, routine, unit_text}
-use Rattle.c_printed.specs.Printable.{IsFree, IsConstant, ten, sixteen, w8}
+use Rattle.c_printed.specs.Printable.{IsFree, IsConstant, sixteen, w8}
 use Rattle.c_printed.specs.PrintableItem.{is_shown, IsHead}
 use Rattle.c_printed.specs.State.{State, nothing_known, with_headers}
 use Rattle.c_printed.specs.PrintableUnit.{IsHeaderAt, IsSource}
 use Rattle.c_printed.specs.Reread.{macro_tokens}
 use Rattle.c_printed.specs.Law.{ReadAsUnit}
 use Rattle.c_printed.proofs.Spelled.{given-name}
+use Rattle.c_printed.proofs.UnitFits.{decimal-fits}
 use Rattle.c_recut.proofs.PairLaw.{pair-reads}
 
 -- ---- the units
@@ -85,9 +86,6 @@ items_read =
 free : (n : List ℕ) → list_all goes_on n ≡ true → first_passes is_letter n ≡ true → keyword_in n ≡ None → IsFree n
 free n h k e = (given-name n h k, e)
 
-small : (v : ℕ) (u : Bool) → v < 2 ^ 64 → IsConstant (record { value = v; base = 10; unsigned = u; longs = 0 })
-small v u h = record { small = h; base = ten; longs = omega arith }
-
 id-small : IsConstant (record { value = 496; base = 16; unsigned = true; longs = 0 })
 id-small = record { small = omega arith; base = sixteen; longs = omega arith }
 
@@ -124,7 +122,7 @@ header-right = record {
                   (
                     (free (codes "EINVAL") refl refl refl, refl),
                     (
-                      (free (codes "EINVAL") refl refl refl, (small 22 false (omega arith), tt), tt),
+                      (free (codes "EINVAL") refl refl refl, (decimal-fits 22 false (omega arith), tt), tt),
                       (
                         tt,
                         (
@@ -177,16 +175,16 @@ source-right = record {
               (
                 (w8, free (codes "x") refl refl refl, free (codes "true") refl refl refl),
                 (
-                  ((omega arith, free (codes "size") refl refl refl, small 8 true (omega arith)), ((tt, free (codes "EINVAL") refl refl refl), tt)),
+                  ((omega arith, free (codes "size") refl refl refl, decimal-fits 8 true (omega arith)), ((tt, free (codes "EINVAL") refl refl refl), tt)),
                   (
-                    ((omega arith, free (codes "dst_p") refl refl refl, tt), ((tt, small 1 false (omega arith)), tt)),
+                    ((omega arith, free (codes "dst_p") refl refl refl, tt), ((tt, decimal-fits 1 false (omega arith)), tt)),
                     (
-                      (tt, (free (codes "dst_p") refl refl refl, (small 0 false (omega arith), (small 8 true (omega arith), tt)))),
+                      (tt, (free (codes "dst_p") refl refl refl, (decimal-fits 0 false (omega arith), (decimal-fits 8 true (omega arith), tt)))),
                       (
-                        (refl, (free (codes "dst_p") refl refl refl, small 0 false (omega arith)), (w8, (free (codes "src_p") refl refl refl, free (codes "on") refl refl refl))),
+                        (refl, (free (codes "dst_p") refl refl refl, decimal-fits 0 false (omega arith)), (w8, (free (codes "src_p") refl refl refl, free (codes "on") refl refl refl))),
                         (
                           (refl, free (codes "x") refl refl refl, free (codes "E_ID") refl refl refl),
-                          (small 0 false (omega arith), tt),
+                          (decimal-fits 0 false (omega arith), tt),
                         ),
                       ),
                     ),

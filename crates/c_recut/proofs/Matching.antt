@@ -29,7 +29,7 @@ use Rattle.c_printed.specs.Spelling.{sign_text, operator_text, assign_text, left
 use Rattle.c_printed.specs.PrintedExpression.{comma, tokens_of, all_tokens}
 use Rattle.c_printed.specs.PrintedStatement.{value_tokens, result_tokens, label_tokens, action_tokens, actions_tokens, parts_tokens}
 use Rattle.c_printed.specs.PrintedItem.{const_tokens, target_tokens, named_tokens, fields_tokens, params_tokens, all_params_tokens, static_tokens, head_tokens, body_tokens, item_tokens}
-use Rattle.c_printed.specs.Reread.{items_tokens}
+use Rattle.c_printed.proofs.UnitReading.{items_tokens}
 use Rattle.c_recut.proofs.Types.{type-all}
 use Rattle.c_recut.proofs.Tokens.{head-of, nil-of, split-of}
 use Rattle.c_tree.specs.declared.expression.UnaryOp.TheVariants as sign

@@ -10,8 +10,9 @@ use Rattle.c_printed.specs.PrintedUnit.{Part, include_beside, part_text, unit_te
 use Rattle.c_printed.specs.Within.{ItemWithin}
 use Rattle.c_printed.specs.State.{State, nothing_known}
 use Rattle.c_printed.specs.PrintableUnit.{IsBeside, IsHeaderAt, IsSource}
-use Rattle.c_printed.specs.Reread.{header_items, source_items, header_macros, source_macros, items_tokens, macro_tokens}
+use Rattle.c_printed.specs.Reread.{header_items, source_items, header_macros, source_macros, macro_tokens}
 use Rattle.c_printed.specs.Law.{ReadAsUnit}
+use Rattle.c_printed.proofs.UnitReading.{items_tokens}
 use Rattle.c_printed.proofs.UnitLeft.{source-left}
 use Rattle.c_printed.proofs.UnitFits.{source-fits}
 use Rattle.c_recut.proofs.CutUnit.{unit-cut}

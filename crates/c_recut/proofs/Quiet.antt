@@ -17,7 +17,8 @@ use Rattle.c_tree.specs.TypeName.{kinds_of}
 use Rattle.c_tree.specs.BareExpression.{Tree, Trees, constant, name, null, member, element, call, unary, cast, binary, bracket, none, more}
 use Rattle.c_printed.specs.Spelling.{sign_text, operator_text, left_type, left_callee, left}
 use Rattle.c_printed.specs.PrintedExpression.{comma, tokens_of, all_tokens}
-use Rattle.c_recut.proofs.Tokens.{every-append, every-is}
+use Rattle.c_printed.proofs.SmallLaws.{and-false, every-append}
+use Rattle.c_recut.proofs.Tokens.{every-is}
 use Rattle.c_recut.proofs.Types.{type-all}
 use Rattle.c_tree.specs.declared.expression.UnaryOp.TheVariants as sign
 use Rattle.c_tree.specs.declared.expression.BinaryOp.TheVariants as op
@@ -106,10 +107,6 @@ mutual
   pub trees-quiet : (first : Bool) (ts : Trees) → AllQuiet (all_tokens left first ts)
   trees-quiet first none = tt
   trees-quiet first (more t ts) = every-append Quiet (comma first) (tokens_of left t ++ all_tokens left false ts) (comma-quiet first) (every-append Quiet (tokens_of left t) (all_tokens left false ts) (tree-quiet t) (trees-quiet false ts))
-
-pub and-false : (b : Bool) → (b && false) ≡ false
-and-false true = refl
-and-false false = refl
 
 -- a test that no kind passes is found nowhere
 pub none-outside : (p : TokenKind → Bool) (at depth : ℕ) (ts : List Token) (ks : List TokenKind) → kinds_of ts ≡ ks → AllByRecursion (λ (k : TokenKind). p k ≡ false) ks → first_outside p at depth ts ≡ None

@@ -75,10 +75,6 @@ between-of o p c q ts e =
 
 -- ---- what holds of all kinds
 
-pub every-append : (P : TokenKind → Type 0) (ks ls : List TokenKind) → AllByRecursion P ks → AllByRecursion P ls → AllByRecursion P (ks ++ ls)
-every-append P [] ls h g = g
-every-append P (k ∷ ks) ls h g = (h.0, every-append P ks ls h.1 g)
-
 pub every-is : (P Q : TokenKind → Type 0) → ((k : TokenKind) → P k → Q k) → (ks : List TokenKind) → AllByRecursion P ks → AllByRecursion Q ks
 every-is P Q f [] h = tt
 every-is P Q f (k ∷ ks) h = (f k h.0, every-is P Q f ks h.1)

@@ -1,10 +1,8 @@
 //! Rows over the whole program: `cli_tool::run` over files and a sink in memory, what it writes,
 //! read as C by `c_lexer::tokens` and `c_pre::expand`, and a table of C, with its trees by
-//! `c_parser::unit` or its first fault beside it; and units of C that are printed and read back.
+//! `c_parser::unit` or its first fault beside it.
 #![tactic(auto)]
 
-#[cfg(test)]
-mod built;
 #[cfg(test)]
 mod checks;
 #[cfg(test)]
@@ -16,13 +14,9 @@ mod executions;
 #[cfg(test)]
 mod explained;
 #[cfg(test)]
-mod printed;
-#[cfg(test)]
 mod reading;
 #[cfg(test)]
 mod rows;
-#[cfg(test)]
-mod shown;
 #[cfg(test)]
 mod table;
 #[cfg(test)]

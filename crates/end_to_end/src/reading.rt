@@ -1,23 +1,10 @@
 //! The header of the first row, read as C.
-ghost use Rattle.c_text.specs.Refusal.{Gives};
-ghost use Rattle.c_text.specs.Tokens as lexing;
-
 use crate::rows::CAN_HEADER;
-use c_lexer::{SOURCE_LIMIT, tokens};
 use c_mean::{CFault, Constant, Token, TokenKind};
 use c_pre::expand;
+use c_shown::read;
 use std::alloc::Global;
 use std::test::Fail;
-
-/// The tokens of a text that is far shorter than the limit.
-pub fn read(alloc: Global, text: &[u8], header: bool) -> Result<Vec<Token>, CFault>
-    ensures { Gives (λ v. v.items) result (lexing.tokens header text.now) }
-{
-    if text.len() > SOURCE_LIMIT {
-        return Err(CFault::Memory);
-    }
-    tokens(alloc, text, header)
-}
 
 fn is_mark(token: &Token, spelling: &[u8]) -> bool {
     matches!(&token.kind, TokenKind::Mark(mark) if mark.bytes() == spelling)

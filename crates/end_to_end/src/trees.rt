@@ -1,18 +1,8 @@
 //! Tables of C: a text, and beside it its trees or its first fault.
-use crate::reading::read;
-use crate::shown::{Line, write_items, write_stmts};
-use c_mean::{CFault, Item, Place, Stmt, Unit};
-use c_parser::unit;
-use c_pre::expand;
+use c_mean::{CFault, Place};
+use c_shown::{Line, body_of, unit_of, write_items, write_stmts};
 use cg_out::Memory;
 use std::alloc::Global;
-
-fn unit_of(alloc: Global, header: &[u8], source: &[u8]) -> Result<Unit, CFault> {
-    let header = read(alloc, header, true)?;
-    let source = read(alloc, source, false)?;
-    let left = expand(alloc, &header, b"h.h", &source)?;
-    unit(alloc, left.tokens.items())
-}
 
 /// The column of an offset, counted from 1.
 fn column_of(text: &[u8], start: u32) -> u32 {
@@ -52,22 +42,11 @@ fn write_fault(
 /// The items of a source and of a header `h.h`, or the first fault.
 pub(super) fn items_of(alloc: Global, header: &[u8], source: &[u8]) -> Result<Vec<u8>, Memory> {
     let mut line = Line::new(alloc, false);
-    match unit_of(alloc, header, source) {
+    match unit_of(alloc, "h.h", header, source) {
         Ok(unit) => write_items(&mut line, unit.items.items())?,
         Err(fault) => write_fault(alloc, &mut line, fault, header, source)?,
     }
     Ok(line.into_bytes())
-}
-
-/// The statements of the one function of a unit.
-fn body_of(unit: &Unit) -> &[Stmt] {
-    match unit.items.items() {
-        [Item::Function(function)] => match &function.body {
-            Some(body) => body.items(),
-            None => &[],
-        },
-        _ => &[],
-    }
 }
 
 /// The statements in the second line of a function, or the first fault.
@@ -77,7 +56,7 @@ fn statements_of(alloc: Global, text: &[u8], with_places: bool) -> Result<Vec<u8
         source.extend_from_slice(piece)?;
     }
     let mut line = Line::new(alloc, with_places);
-    match unit_of(alloc, b"", &source) {
+    match unit_of(alloc, "h.h", b"", &source) {
         Ok(unit) => write_stmts(&mut line, body_of(&unit))?,
         Err(fault) => write_fault(alloc, &mut line, fault, b"", &source)?,
     }

@@ -8,7 +8,7 @@ use std::alloc::Global;
 
 /// A line that is being written.
 #[derive(Drop)]
-pub(super) struct Line {
+pub struct Line {
     alloc: Global,
     bytes: Vec<u8>,
     /// Whether each tree has the offset of its place behind it.
@@ -16,7 +16,7 @@ pub(super) struct Line {
 }
 
 impl Line {
-    pub(super) fn new(alloc: Global, with_places: bool) -> Line {
+    pub fn new(alloc: Global, with_places: bool) -> Line {
         Line {
             alloc,
             bytes: Vec::new(alloc),
@@ -24,17 +24,17 @@ impl Line {
         }
     }
 
-    pub(super) fn into_bytes(self) -> Vec<u8> {
+    pub fn into_bytes(self) -> Vec<u8> {
         let Line { bytes, .. } = self;
         bytes
     }
 
-    pub(super) fn put(&mut self, text: &[u8]) -> Result<(), Memory> {
+    pub fn put(&mut self, text: &[u8]) -> Result<(), Memory> {
         Ok(self.bytes.extend_from_slice(text)?)
     }
 
     /// A word, apart from what stands before it.
-    pub(super) fn word(&mut self, text: &[u8]) -> Result<(), Memory> {
+    fn word(&mut self, text: &[u8]) -> Result<(), Memory> {
         if !matches!(self.bytes.last(), None | Some(b'(' | b'[')) {
             self.put(b" ")?;
         }
@@ -283,7 +283,7 @@ fn write_label(line: &mut Line, value: &Option<Expr>, place: Place) -> Result<()
     line.close()
 }
 
-pub(super) fn write_stmts(line: &mut Line, list: &[Stmt]) -> Result<(), Memory> {
+pub fn write_stmts(line: &mut Line, list: &[Stmt]) -> Result<(), Memory> {
     for stmt in list {
         write_stmt(line, stmt)?;
     }
@@ -321,7 +321,7 @@ fn write_fields(line: &mut Line, list: &[Field]) -> Result<(), Memory> {
     Ok(())
 }
 
-pub(super) fn write_struct(line: &mut Line, item: &Struct) -> Result<(), Memory> {
+fn write_struct(line: &mut Line, item: &Struct) -> Result<(), Memory> {
     line.word(b"(struct")?;
     line.leaf(item.tag.bytes(), item.place)?;
     write_fields(line, item.fields.items())?;
@@ -329,7 +329,7 @@ pub(super) fn write_struct(line: &mut Line, item: &Struct) -> Result<(), Memory>
 }
 
 /// A definition has `:` before its statements.
-pub(super) fn write_function(line: &mut Line, item: &Function) -> Result<(), Memory> {
+fn write_function(line: &mut Line, item: &Function) -> Result<(), Memory> {
     line.word(b"(")?;
     if item.fixed {
         line.word(b"static")?;
@@ -345,7 +345,7 @@ pub(super) fn write_function(line: &mut Line, item: &Function) -> Result<(), Mem
     line.close()
 }
 
-pub(super) fn write_items(line: &mut Line, items: &[Item]) -> Result<(), Memory> {
+pub fn write_items(line: &mut Line, items: &[Item]) -> Result<(), Memory> {
     for item in items {
         match item {
             Item::Struct(item) => write_struct(line, item)?,
