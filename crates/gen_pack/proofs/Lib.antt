@@ -1,0 +1,14 @@
+-- What is proved of them.
+mod Members
+mod SegmentBits
+mod Segments
+mod OwnLocals
+mod Putting
+mod Fields
+mod Declarations
+mod Flat
+mod Frames
+mod Steps
+mod Expanding
+mod Body
+mod Anywhere

@@ -1,0 +1,2 @@
+//! The pack functions of generated C: trees, with what each call of them does.
+#![tactic(auto)]
