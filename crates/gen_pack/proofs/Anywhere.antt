@@ -24,7 +24,7 @@ use Rattle.gen_pack.specs.Named.{IsNamed}
 use Rattle.gen_pack.specs.Packs.{returning, PacksIn, PacksAs}
 use Rattle.gen_pack.specs.Switches.{HasNoParent}
 use Rattle.gen_pack.proofs.Expanding.{error-is-22}
-use Rattle.gen_pack.proofs.Body.{placed_function, packs-short, packs-nothing, packs-frame}
+use Rattle.gen_pack.proofs.Running.{placed_function, packs-short, packs-nothing, packs-frame}
 
 pub packs-in : (message : Message) (names : MessageNames) → IsNamed message names → IsOfValidDatabase message → AllByRecursion HasNoParent message.signals
     → (unit : Whole) (f : Function) → bare_item (item.Function f) ≡ pack_function (number 22) message names → PacksIn unit message names f

@@ -10,5 +10,5 @@ mod Flat
 mod Frames
 mod Steps
 mod Expanding
-mod Body
+mod Running
 mod Anywhere
