@@ -1,5 +1,7 @@
 -- What is proved of them.
 mod Members
+mod InPairs
+mod Numbers
 mod SegmentBits
 mod Segments
 mod OwnLocals

@@ -1,8 +1,8 @@
 //! The body of a pack function.
-ghost use Rattle.std.specs.Prelude.{◌≡◌, ◌++◌, map, Option, Some, None, IfOk, OnOk};
+ghost use Rattle.std.specs.Prelude.{◌≡◌, ◌==◌, if◌then◌else◌, [], ◌∷◌, ◌++◌, map, IfOk, OnOk};
 ghost use Rattle.std.specs.List.{AllByRecursion, flat_map};
 ghost use Rattle.c_tree.specs.BareExpression.{bare_expression, name};
-ghost use Rattle.c_tree.specs.BareStatement.{bare_statement};
+ghost use Rattle.c_tree.specs.BareStatement.{bare_statement, discard};
 ghost use Rattle.gen_pack.specs.Parts.{parts_from};
 ghost use Rattle.gen_pack.specs.SegmentMove.{HasSegments};
 ghost use Rattle.gen_pack.specs.Switches.{HasNoParent};
@@ -98,6 +98,22 @@ pub fn empty_body(alloc: Global) -> Result<List<Stmt>, Memory>
     Ok(out)
 }
 
+fn put_discarded(alloc: Global, out: &mut List<Stmt>, name: &[u8]) -> Result<(), Memory>
+    ensures { OnOk result (map bare_statement out.new ≡ map bare_statement out.old ++ discard name.now ∷ []) }
+{
+    out.push(discarded(alloc, name)?)
+}
+
+fn put_source_discarded(alloc: Global, out: &mut List<Stmt>, count: usize) -> Result<(), Memory>
+    ensures { OnOk result (map bare_statement out.new ≡ map bare_statement out.old ++ (if count == 0 then discard spec.source ∷ [] else [])) }
+{
+    if count == 0 {
+        put_discarded(alloc, out, source())?;
+    }
+    Ok(())
+}
+
+/// `(void)src_p;` where no signal is read.
 fn put_unread(
     alloc: Global,
     out: &mut List<Stmt>,
@@ -106,9 +122,8 @@ fn put_unread(
 ) -> Result<(), Memory>
     ensures { OnOk result (map bare_statement out.new ≡ map bare_statement out.old ++ spec.unread (parts_from 0 signals.now names.now)) }
 {
-    if signals.is_empty() || names.is_empty() {
-        out.push(discarded(alloc, source())?)?;
-    }
+    let count = signals.len().min(names.len());
+    put_source_discarded(alloc, out, count)?;
     Ok(())
 }
 
@@ -141,8 +156,25 @@ fn put_signals(
     Ok(())
 }
 
+fn put_size_asked(alloc: Global, out: &mut List<Stmt>, length: u32) -> Result<(), Memory>
+    ensures { OnOk result (map bare_statement out.new ≡ map bare_statement out.old ++ spec.size_asked (name spec.error_name) length ∷ []) }
+{
+    out.push(size_asked(alloc, length)?)
+}
+
+fn put_cleared(alloc: Global, out: &mut List<Stmt>, length: u32) -> Result<(), Memory>
+    ensures { OnOk result (map bare_statement out.new ≡ map bare_statement out.old ++ spec.cleared length ∷ []) }
+{
+    out.push(cleared(alloc, length)?)
+}
+
+fn put_returned(alloc: Global, out: &mut List<Stmt>, value: u32) -> Result<(), Memory>
+    ensures { OnOk result (map bare_statement out.new ≡ map bare_statement out.old ++ spec.returned (spec.number value) ∷ []) }
+{
+    out.push(returned(alloc, number(value))?)
+}
+
 /// The body of a message of that many bytes, 1 or more, in which no signal has a parent.
-#[tactic(auto, unfolding(crate::specs::PackTree::long_body))]
 pub fn long_body(
     alloc: Global,
     length: u32,
@@ -156,9 +188,9 @@ pub fn long_body(
     let mut out = List::new(alloc);
     put_unread(alloc, &mut out, signals, names)?;
     put_declarations(alloc, &mut out, signals, names)?;
-    out.push(size_asked(alloc, length)?)?;
-    out.push(cleared(alloc, length)?)?;
+    put_size_asked(alloc, &mut out, length)?;
+    put_cleared(alloc, &mut out, length)?;
     put_signals(alloc, &mut out, signals, names)?;
-    out.push(returned(alloc, number(length))?)?;
+    put_returned(alloc, &mut out, length)?;
     Ok(out)
 }

@@ -67,18 +67,10 @@ fn body(alloc: Global, message: &Message, names: &MessageNames) -> Result<List<S
     }
 }
 
-/// The pack function of a message in which no signal has a parent.
-///
-/// A call of it gives, under every data model and for all values of the struct's fields,
-/// -22 for a size below the message's length, and then nothing is touched, else the length, and then the
-/// buffer begins with the message's frame.
-pub fn pack_tree(alloc: Global, message: &Message, names: &MessageNames) -> Result<Function, Memory>
+fn whole(alloc: Global, message: &Message, names: &MessageNames) -> Result<Function, Memory>
     requires valid { IsOfValidDatabase message.now }
     requires flat { AllByRecursion HasNoParent message.now.signals }
-    ensures tree { IfOk result (λ f. bare_item (AFunction f) ≡ spec.pack_function (name spec.error_name) message.now names.now) }
-
-    // With the number 22 for EINVAL.
-    ensures packs { IsNamed message.now names.now → IfOk result (λ f. PacksAs message.now names.now f) }
+    ensures { IfOk result (λ f. bare_item (AFunction f) ≡ spec.pack_function (name spec.error_name) message.now names.now) }
 {
     Ok(Function {
         fixed: false,
@@ -89,4 +81,20 @@ pub fn pack_tree(alloc: Global, message: &Message, names: &MessageNames) -> Resu
         place: nowhere(),
         close: nowhere(),
     })
+}
+
+/// The pack function of a message in which no signal has a parent.
+///
+/// Under every data model, and for all values of the struct's fields, a call of it gives -22 where
+/// the size is below the message's length, and touches nothing; else it gives the length, and the
+/// buffer begins with the message's frame. That is said of the function as a text has it, in which
+/// `EINVAL` is the number 22, in each unit that has the message's struct and the helpers that are
+/// called.
+pub fn pack_tree(alloc: Global, message: &Message, names: &MessageNames) -> Result<Function, Memory>
+    requires valid { IsOfValidDatabase message.now }
+    requires flat { AllByRecursion HasNoParent message.now.signals }
+    ensures tree { IfOk result (λ f. bare_item (AFunction f) ≡ spec.pack_function (name spec.error_name) message.now names.now) }
+    ensures packs { IsNamed message.now names.now → IfOk result (λ f. PacksAs message.now names.now f) }
+{
+    whole(alloc, message, names)
 }
