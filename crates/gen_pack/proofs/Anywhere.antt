@@ -1,5 +1,5 @@
 -- Each function that is the message's pack function but for places packs the message, under each model and in any unit with what it calls.
-use Rattle.std.proofs.Common.{◌≡◌, ℕ, List, Some, refl, sym, ap, ◌∙◌, pos, negsuc, ℤ}
+use Rattle.std.proofs.Common.{◌≡◌, List, Some, refl, sym, ap, ◌∙◌, pos, negsuc, ℤ}
 use Rattle.std.specs.List.{AllByRecursion}
 use Rattle.can_model.specs.declared.database.Message.{Message}
 use Rattle.can_model.specs.Validity.{IsOfValidDatabase}
@@ -34,7 +34,7 @@ packs-in message names named valid flat unit f bare int long pointer is struct h
     let own : Function = placed_function m one unit.items message names in
     let alike : bare_item (item.Function own) ≡ bare_item (item.Function f) = bare-grown_item (pack_function (number 22) message names) ∙ sym bare in
     let moved : (args : List Arg) (objects left : List Object) (z : ℤ) → run_in (unit_world m unit.items) own args objects ≡ returning z left → call m unit f args objects ≡ returning z left =
-        λ args objects left z h. call-anywhere m unit unit own f args objects left (Some (typed t.Int z)) refl alike h in
+    λ args objects left z h. call-anywhere m unit unit own f args objects left (Some (typed t.Int z)) refl alike h in
     record {
       short = λ objects to from size small lt. moved _ objects objects (negsuc 21) (packs-short m one unit.items message names named valid objects to from size small lt);
       nothing = λ objects to from size small none. moved _ objects objects (pos 0) (packs-nothing m one unit.items message names objects to from size small none);

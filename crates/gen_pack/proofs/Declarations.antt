@@ -1,10 +1,8 @@
 -- The declarations of the locals of signals: each is there, without a value, and nothing else has changed.
-use Rattle.std.proofs.Common.{◌≡◌, ℕ, false, List, [], ◌∷◌, ◌++◌, map, Option, Some, None, inl, inr, refl, sym, ap, subst, ◌∙◌, Ok, ℤ}
+use Rattle.std.proofs.Common.{◌≡◌, ℕ, false, List, [], ◌∷◌, map, Option, Some, None, refl, subst, ◌∙◌, Ok}
 use Rattle.std.specs.List.{AllByRecursion, flat_map}
-use Rattle.std.specs.Str.{bytes_eq}
 use Rattle.c_text.specs.declared.token.Spelled.TheVariants.{Exact}
-use Rattle.c_tree.specs.BareStatement.{Action}
-use Rattle.c_widths.specs.IntegerType.{exact_type, type_of}
+use Rattle.c_widths.specs.IntegerType.{exact_type}
 use Rattle.c_mem.specs.declared.objects.Object.{Object}
 use Rattle.c_effect.specs.declared.state.Flow.TheVariants.{Next}
 use Rattle.c_effect.specs.declared.state.Held.TheVariants.{Integer as Number}
@@ -19,7 +17,6 @@ use Rattle.c_effect.proofs.Statements.{declares}
 use Rattle.gen_pack.specs.SegmentMove.{width_of}
 use Rattle.gen_pack.specs.Parts.{Part}
 use Rattle.gen_pack.specs.PackTree.{declared, local_declared}
-use Rattle.gen_pack.proofs.Members.{Among}
 use Rattle.gen_pack.proofs.OwnLocals.{IsOther, AreOther, HaveOwn}
 use Rattle.gen_pack.proofs.Putting.{HasLocal, HasLocalOf, through-both}
 

@@ -1,5 +1,5 @@
 -- A pack function's tree with its macros replaced: EINVAL is the number 22, and all else stays.
-use Rattle.std.proofs.Common.{◌≡◌, ℕ, suc, Bool, true, false, List, [], ◌∷◌, ◌++◌, map, Option, Some, None, refl, sym, ap, ◌∙◌}
+use Rattle.std.proofs.Common.{◌≡◌, ℕ, suc, Bool, true, false, List, [], ◌∷◌, ◌++◌, map, Option, Some, None, refl, ap, ◌∙◌}
 use Rattle.std.specs.Prelude.{◌==◌, if◌then◌else◌}
 use Rattle.std.specs.List.{AllByRecursion, flat_map}
 use Rattle.std.proofs.lemmas.List.{map-append}
@@ -7,17 +7,17 @@ use Rattle.can_model.specs.declared.database.Message.{Message}
 use Rattle.can_model.specs.declared.database.Signal.{Signal}
 use Rattle.name_rules.specs.declared.table.MessageNames.{MessageNames}
 use Rattle.name_rules.specs.declared.table.SignalNames.{SignalNames}
-use Rattle.name_rules.specs.Symbols.{one_or_none, local_names}
-use Rattle.c_tree.specs.BareExpression.{Tree, name}
+use Rattle.name_rules.specs.Symbols.{one_or_none}
+use Rattle.c_tree.specs.BareExpression.{name}
 use Rattle.c_tree.specs.BareStatement.{Action, actions_of}
 use Rattle.c_tree.specs.BareStatement as a
 use Rattle.c_printed.specs.Expanded.{Meaning, or_name, expanded, expanded_action, expanded_actions, expanded_item}
 use Rattle.bit_layout.specs.declared.walk.Segment.{Segment}
 use Rattle.bit_layout.specs.Segments.{segments_of}
 use Rattle.gen_pack.specs.SegmentMove.{width_of}
-use Rattle.gen_pack.specs.Parts.{Part, part, parts_from, parts_of}
+use Rattle.gen_pack.specs.Parts.{Part, parts_from, parts_of}
 use Rattle.gen_pack.specs.Switches.{HasNoParent}
-use Rattle.gen_pack.specs.PackTree.{buffer, size, error_name, number, field, name_or, taken, segment_put, local_declared, local_set, declared, part_put, all_put, size_asked, cleared, unread, returned, long_body, empty_body, message_body, pack_function}
+use Rattle.gen_pack.specs.PackTree.{error_name, number, field, name_or, segment_put, local_declared, local_set, declared, part_put, all_put, size_asked, cleared, unread, returned, long_body, empty_body, message_body, pack_function}
 use Rattle.gen_pack.specs.Packs.{HasError}
 use Rattle.gen_pack.proofs.Flat.{all-put-flat}
 

@@ -1,8 +1,7 @@
 -- Where the fields of a message's struct are: that of each signal has the signal's number.
-use Rattle.std.proofs.Common.{◌≡◌, ℕ, zero, suc, ◌+◌, ◌<◌, Bool, true, false, List, [], ◌∷◌, map, Option, Some, None, inl, inr, refl, sym, ap, subst, ◌∙◌, arith, Ok}
-use Rattle.std.specs.Prelude.{not, ◌||◌, slice_get, nat_lt, cond, length}
+use Rattle.std.proofs.Common.{◌≡◌, ℕ, suc, ◌+◌, ◌<◌, true, false, List, [], ◌∷◌, map, Some, inl, inr, refl, sym, ap, subst, ◌∙◌, arith, Ok}
+use Rattle.std.specs.Prelude.{not, slice_get, nat_lt, length}
 use Rattle.std.specs.List.{list_any, position, position_or_len}
-use Rattle.std.specs.Option.{option_map}
 use Rattle.std.specs.Str.{bytes_eq}
 use Rattle.std.proofs.lemmas.Bool.Decides.{nat_tests}
 use Rattle.std.proofs.lemmas.Option.{slice_get_within}
@@ -18,7 +17,7 @@ use Rattle.c_tree.specs.declared.item.Item.{Item}
 use Rattle.c_tree.specs.BareUnit.{BareField, bare_field}
 use Rattle.c_widths.specs.DataModel.{DataModel}
 use Rattle.c_widths.specs.IntegerType.{exact_type}
-use Rattle.c_types.specs.FieldNamed.{field_named, field_in}
+use Rattle.c_types.specs.FieldNamed.{field_in}
 use Rattle.c_types.specs.ExpressionTypes.{integer_type}
 use Rattle.c_types.specs.Setting.{structs}
 use Rattle.c_effect.specs.Loading.{slot, slot_named}
@@ -26,8 +25,8 @@ use Rattle.c_effect.specs.FunctionCall.{unit_world}
 use Rattle.c_effect.proofs.Expressions.{slot-is}
 use Rattle.c_effect.proofs.Locals.{same-name}
 use Rattle.gen_pack.specs.SegmentMove.{width_of}
-use Rattle.gen_pack.specs.StructFields.{field_type, field_of, fields_of, or_dummy, struct_fields}
-use Rattle.gen_pack.specs.Parts.{Part, part, parts_from, parts_of}
+use Rattle.gen_pack.specs.StructFields.{field_type, field_of, fields_of, or_dummy}
+use Rattle.gen_pack.specs.Parts.{Part, parts_from, parts_of}
 use Rattle.gen_pack.specs.Packs.{HasStruct}
 use Rattle.gen_pack.proofs.Members.{Among}
 use Rattle.gen_pack.proofs.OwnLocals.{and-left, and-right, none-first, none-later, flipped-names}

@@ -1,16 +1,14 @@
 -- Messages in which no signal has a parent: all signals stand on one level, and all are active.
-use Rattle.std.proofs.Common.{◌≡◌, ℕ, zero, suc, ◌+◌, ◌<◌, Bool, true, false, List, [], ◌∷◌, ◌++◌, length, map, Option, Some, None, inl, inr, refl, sym, ap, subst, ◌∙◌, arith, append-nil, ℤ}
-use Rattle.std.specs.Prelude.{◌⊎◌, ◌↔◌, slice_get, IsSomeAnd, MatchOption}
-use Rattle.std.specs.List.{AllByRecursion, filter, flat_map, list_any}
-use Rattle.std.proofs.lemmas.Option.{slice_get_within}
+use Rattle.std.proofs.Common.{◌≡◌, ℕ, zero, suc, ◌+◌, true, false, List, [], ◌∷◌, ◌++◌, length, Option, Some, inl, inr, refl, sym, ap, subst, ◌∙◌, arith, append-nil, ℤ}
+use Rattle.std.specs.Prelude.{slice_get}
+use Rattle.std.specs.List.{AllByRecursion, filter, flat_map}
 use Rattle.can_model.specs.declared.database.Message.{Message}
 use Rattle.can_model.specs.declared.database.Signal.{Signal}
-use Rattle.can_model.specs.Active.{value_at, IsActive}
-use Rattle.can_model.proofs.Elements.{some_and, and_some, all_at}
+use Rattle.can_model.specs.Active.{IsActive}
+use Rattle.can_model.proofs.Elements.{and_some, all_at}
 use Rattle.name_rules.specs.declared.table.MessageNames.{MessageNames}
 use Rattle.name_rules.specs.declared.table.SignalNames.{SignalNames}
 use Rattle.name_rules.specs.Symbols.{AllPairs, HasNamesOfSignal}
-use Rattle.frame_codec.specs.Ones.{IsBitBelow, IsSetBelow}
 use Rattle.c_tree.specs.BareStatement.{Action}
 use Rattle.gen_pack.specs.Parts.{Part, part, parts_from, parts_of}
 use Rattle.gen_pack.specs.Switches.{HasNoParent, has_no_parent, is_root, is_selector}

@@ -1,11 +1,11 @@
 -- The ones that the statements of all signals add are those of the frame, where no signal has a parent.
-use Rattle.std.proofs.Common.{◌≡◌, ℕ, ◌+◌, ◌<◌, List, [], ◌∷◌, length, Option, Some, None, inl, inr, refl, sym, ap, subst, ◌∙◌, arith, ℤ}
-use Rattle.std.specs.Prelude.{◌⊎◌, ◌↔◌, slice_get, IsSomeAnd}
+use Rattle.std.proofs.Common.{◌≡◌, ℕ, List, [], ◌∷◌, length, Option, Some, inl, inr, refl, subst, arith, ℤ}
+use Rattle.std.specs.Prelude.{◌↔◌, slice_get, IsSomeAnd}
 use Rattle.std.specs.List.{AllByRecursion}
 use Rattle.std.proofs.lemmas.Option.{slice_get_within}
 use Rattle.can_model.specs.declared.database.Message.{Message}
 use Rattle.can_model.specs.declared.database.Signal.{Signal}
-use Rattle.can_model.specs.Active.{value_at, IsActive}
+use Rattle.can_model.specs.Active.{value_at}
 use Rattle.can_model.proofs.Elements.{some_and, and_some}
 use Rattle.name_rules.specs.declared.table.MessageNames.{MessageNames}
 use Rattle.name_rules.specs.Symbols.{AllPairs, HasNamesOfSignal}
@@ -40,15 +40,18 @@ module _ (m : Message) (names : MessageNames) (values : List (Option ℤ)) (flat
   put-set p h =
       let o = some-one (parts_of m names) (IsPutBy values) p h in
       let x : Part = o.which in
-      let at : slice_get m.signals x.index ≡ Some x.signal = signal-at m names x o.among in
-      (x.index, slice_get_within m.signals x.index x.signal at, all-active m values x.index x.signal flat at,
-        and_some (λ s. IsSomeAnd (value_at values x.index) (λ v. IsBitBelow s v s.length p)) (slice_get m.signals x.index) x.signal at o.has)
+      let at : slice_get m.signals x.index ≡ Some x.signal = signal-at m names x o.among in (
+        x.index,
+        slice_get_within m.signals x.index x.signal at,
+        all-active m values x.index x.signal flat at,
+        and_some (λ s. IsSomeAnd (value_at values x.index) (λ v. IsBitBelow s v s.length p)) (slice_get m.signals x.index) x.signal at o.has,
+      )
 
   set-put : (p : ℕ) → IsSetBelow m values (length m.signals) p → SomeHas (parts_of m names) (IsPutBy values) p
   set-put p h =
       let i : ℕ = h.0 in
       let signal : (s : Signal) × (slice_get m.signals i ≡ Some s) × IsSomeAnd (value_at values i) (λ v. IsBitBelow s v s.length p) =
-          some_and (λ s. IsSomeAnd (value_at values i) (λ v. IsBitBelow s v s.length p)) (slice_get m.signals i) h.3 in
+      some_and (λ s. IsSomeAnd (value_at values i) (λ v. IsBitBelow s v s.length p)) (slice_get m.signals i) h.3 in
       let f : Found i signal.0 (parts_of m names) = part-of 0 i i m.signals names.signals signal.0 named signal.1 (omega arith) in
       one-some (parts_of m names) (IsPutBy values) p (part i signal.0 f.names) f.among signal.2
 

@@ -1,5 +1,5 @@
 -- Small numbers and lists as the code has them.
-use Rattle.std.proofs.Common.{◌≡◌, ℕ, zero, suc, ◌+◌, ◌-◌, ◌*◌, ◌%◌, ◌^◌, ◌<◌, ◌≤◌, min, Bool, true, false, List, [], ◌∷◌, ◌++◌, length, Some, refl, sym, ap, ◌∙◌, arith, append_assoc}
+use Rattle.std.proofs.Common.{◌≡◌, ℕ, suc, ◌+◌, ◌*◌, ◌%◌, ◌^◌, ◌≤◌, min, false, List, [], ◌∷◌, ◌++◌, length, Some, refl, sym, ap, ◌∙◌, arith, append_assoc}
 use Rattle.std.specs.Prelude.{◌==◌, if◌then◌else◌, slice_get}
 use Rattle.std.proofs.Math.Nat.{mod-eq_of_lt}
 use Rattle.std.proofs.Math.Pow.{pow_mono}
@@ -58,7 +58,7 @@ in-a-row u d p s c r =
 
 pub long-body-is : (error : Tree) (n : ℕ) (ss : List Signal) (ns : List SignalNames) → AllByRecursion HasNoParent ss
     → (((((unread (parts_from 0 ss ns) ++ flat_map declared (parts_from 0 ss ns)) ++ size_asked error n ∷ []) ++ cleared n ∷ []) ++ flat_map part_put (parts_from 0 ss ns)) ++ returned (number n) ∷ [])
-        ≡ long_body error n (parts_from 0 ss ns)
+    ≡ long_body error n (parts_from 0 ss ns)
 unfolding long_body
 long-body-is error n ss ns flat =
     let ps : List Part = parts_from 0 ss ns in

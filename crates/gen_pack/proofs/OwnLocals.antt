@@ -102,9 +102,6 @@ own-or_same (z ∷ zs) own x y (inr ax) (inr ay) = own-or_same zs own.1 x y ax a
 
 -- ---- the parameters' names
 
-
-
-
 pub record IsFree (x : Part) : Type 0 where
   pub of_buffer : IsOther buffer x.names.local
   pub of_source : IsOther source x.names.local

@@ -1,18 +1,17 @@
 -- Statements that put signals: each leaves the two pointers and the locals of signals, and adds ones to the buffer.
-use Rattle.std.proofs.Common.{◌≡◌, ℕ, ◌<◌, ◌≤◌, Bool, true, false, List, [], ◌∷◌, ◌++◌, length, map, Option, Some, None, inl, inr, refl, sym, ap, subst, ◌∙◌, arith, Ok, pos, ℤ}
+use Rattle.std.proofs.Common.{◌≡◌, ℕ, ◌≤◌, true, false, List, [], ◌∷◌, ◌++◌, map, Option, Some, None, inl, inr, refl, sym, ap, subst, ◌∙◌, arith, Ok, pos, ℤ}
 use Rattle.std.specs.Prelude.{◌⊎◌, ◌↔◌, nat_le, slice_get, option_and_then}
-use Rattle.std.specs.List.{AllByRecursion, flat_map}
+use Rattle.std.specs.List.{flat_map}
 use Rattle.std.specs.Str.{bytes_eq}
 use Rattle.std.proofs.lemmas.List.{map-append}
 use Rattle.std.proofs.lemmas.Bool.Decides.{nat_tests, leb_tells}
-use Rattle.can_model.specs.Place.{place_of, IsPlaced}
+use Rattle.can_model.specs.Place.{IsPlaced}
 use Rattle.can_model.specs.Active.{value_at}
 use Rattle.can_model.specs.RawValue.{has_bits, field_bits}
 use Rattle.frame_codec.specs.Ones.{AddsOnes, IsBitBelow}
 use Rattle.c_text.specs.declared.token.IntType.{IntType}
 use Rattle.c_text.specs.declared.token.Spelled.TheVariants.{Exact}
 use Rattle.c_tree.specs.declared.item.Item.{Item}
-use Rattle.c_tree.specs.declared.statement.Stmt.{Stmt}
 use Rattle.c_tree.specs.BareStatement.{Action}
 use Rattle.c_widths.specs.DataModel.{DataModel}
 use Rattle.c_widths.specs.IntegerType.{exact_type}
@@ -25,13 +24,12 @@ use Rattle.c_operators.proofs.Exact.{unsigned-at, exact-fits}
 use Rattle.c_operators.proofs.Numbers.{unsigned-fits}
 use Rattle.c_effect.specs.declared.state.Flow.TheVariants.{Next}
 use Rattle.c_effect.specs.declared.state.Held.{Held as Holding}
-use Rattle.c_effect.specs.declared.state.Held.TheVariants.{Integer as Number, Pointer as Address}
+use Rattle.c_effect.specs.declared.state.Held.TheVariants.{Integer as Number}
 use Rattle.c_effect.specs.Locals.{Block, held_by, set_local}
 use Rattle.c_effect.specs.World.{World}
 use Rattle.c_effect.specs.Loading.{slot, slot_named}
 use Rattle.c_effect.specs.Ending.{after, sequence}
 use Rattle.c_effect.specs.StatementEffect.{effects_of}
-use Rattle.c_effect.specs.FunctionCall.{unit_world}
 use Rattle.c_effect.proofs.Expressions.{Gives, gives-Cast, gives-Member, gives-Name}
 use Rattle.c_effect.proofs.Locals.{held-set, held-other, reads-number, points-at}
 use Rattle.c_effect.proofs.Placeless.{no_place, grown, grown_stmt}
@@ -41,11 +39,11 @@ use Rattle.bit_layout.specs.Segments.{segments_of}
 use Rattle.shift_helpers.specs.HelperResult.{IsWidth}
 use Rattle.gen_pack.specs.SegmentMove.{width_of}
 use Rattle.gen_pack.specs.Parts.{Part}
-use Rattle.gen_pack.specs.PackTree.{buffer, source, name_or, taken, field, local_set, part_put, segment_put}
+use Rattle.gen_pack.specs.PackTree.{buffer, source, name_or, field, local_set, part_put, segment_put}
 use Rattle.gen_pack.specs.Packs.{HasHelpersOf}
 use Rattle.gen_pack.proofs.Members.{Among}
 use Rattle.gen_pack.proofs.SegmentBits.{low_of, Pattern, pattern, adds-none, adds-both, adds-same}
-use Rattle.gen_pack.proofs.Segments.{Scene, IsBuffer, still-buffer, shown, world, HasPointers, Takes, struct-there, Put, segments-put}
+use Rattle.gen_pack.proofs.Segments.{Scene, IsBuffer, still-buffer, shown, world, HasPointers, struct-there, segments-put}
 use Rattle.gen_pack.proofs.OwnLocals.{IsOther, AreOther, HaveOwn, own-or_same, IsFree, and-right, flipped-names}
 
 -- ---- the width of a field
@@ -54,12 +52,12 @@ width-is : (n : ℕ) → has_bits n ≡ true → IsWidth (field_bits n) × (n �
 width-is n h = elim (leb_tells n 8) [
   | inl a ↦ (rw a.0 (inl refl), rw a.0 a.1)
   | inr a ↦ elim (leb_tells n 16) [
-      | inl b ↦ (rw (a.0, b.0) (inr (inl refl)), rw (a.0, b.0) b.1)
-      | inr b ↦ elim (leb_tells n 32) [
-          | inl c ↦ (rw (a.0, b.0, c.0) (inr (inr (inl refl))), rw (a.0, b.0, c.0) c.1)
-          | inr c ↦ (rw (a.0, b.0, c.0) (inr (inr (inr refl))), rw (a.0, b.0, c.0) (let t = and-right (nat_le 1 n) (nat_le n 64) h in grind (arith, nat_tests)))
-        ]
+    | inl b ↦ (rw (a.0, b.0) (inr (inl refl)), rw (a.0, b.0) b.1)
+    | inr b ↦ elim (leb_tells n 32) [
+      | inl c ↦ (rw (a.0, b.0, c.0) (inr (inr (inl refl))), rw (a.0, b.0, c.0) c.1)
+      | inr c ↦ (rw (a.0, b.0, c.0) (inr (inr (inr refl))), rw (a.0, b.0, c.0) (let t = and-right (nat_le 1 n) (nat_le n 64) h in grind (arith, nat_tests)))
     ]
+  ]
 ]
 
 -- a local of the width, with a value or none yet
@@ -210,8 +208,8 @@ module _ (m : DataModel) (one : IsOneOf m) (items : List Item) (objects : List O
       let d : (old : Option ℤ) × (held_by n locals ≡ Some (Number kind old)) = subst (λ l. HasLocal m locals l w) e (held.local x among) in
       let left : List Block = set_local n (Number kind (Some (pos low))) locals in
       let ends = sets-local here locals (at bytes) no_place no_place n _ kind kind d.0 (pos low) (pos low) d.1
-          (gives-Cast here locals (at bytes) no_place (Exact w false) (grown (field x)) (exact_type m w x.signal.signed) v (pos low) (gives-field x v locals bytes r held.pointers has) ((unsigned-at m one w iw).converts v ∙ p.is))
-          (exact-fits m one w low iw p.below) in
+      (gives-Cast here locals (at bytes) no_place (Exact w false) (grown (field x)) (exact_type m w x.signal.signed) v (pos low) (gives-field x v locals bytes r held.pointers has) ((unsigned-at m one w iw).converts v ∙ p.is))
+      (exact-fits m one w low iw p.below) in
       let there : held_by n left ≡ Some (Number kind (Some (pos low))) = held-set n (Number kind (Some (pos low))) (Number kind d.0) locals d.1 in
       record {
         left = left;
@@ -234,7 +232,7 @@ module _ (m : DataModel) (one : IsOneOf m) (items : List Item) (objects : List O
       let iw = width-is x.signal.length r.placed.bits in
       let p = prepared parts own x among r v has locals held bytes x.names.local refl in
       let put = segments-put m one items objects to from size tag values scene rest p.left x v iw.0 iw.1 p.held.pointers
-          (record { kind = p.kind; taken_number = p.number; gives = p.gives; is = p.taken_is }) bytes r.placed.inside r.helpers b in
+      (record { kind = p.kind; taken_number = p.number; gives = p.gives; is = p.taken_is }) bytes r.placed.inside r.helpers b in
       record {
         left = p.left;
         new = put.left;

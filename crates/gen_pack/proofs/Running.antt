@@ -1,12 +1,11 @@
 -- The body of a pack function, run from its parameters: it refuses a short buffer, and else writes the frame.
-use Rattle.std.proofs.Common.{◌≡◌, ◌≢◌, ℕ, zero, suc, ◌^◌, ◌<◌, ◌≤◌, Bool, true, false, List, [], ◌∷◌, ◌++◌, length, map, drop, replicate, Option, Some, None, inl, inr, refl, sym, ap, subst, ◌∙◌, arith, Ok, pos, negsuc, ℤ}
-use Rattle.std.specs.Prelude.{◌↔◌, ◌==◌, slice_get, slice_set, IsSomeAnd}
+use Rattle.std.proofs.Common.{◌≡◌, ◌≢◌, ℕ, zero, suc, ◌^◌, ◌<◌, ◌≤◌, List, [], ◌∷◌, ◌++◌, length, map, drop, replicate, Option, Some, inl, inr, refl, sym, ap, subst, ◌∙◌, arith, Ok, pos, negsuc, ℤ}
+use Rattle.std.specs.Prelude.{◌↔◌, slice_get, slice_set, IsSomeAnd}
 use Rattle.std.specs.List.{AllByRecursion, flat_map}
 use Rattle.std.proofs.lemmas.Bool.Decides.{eqb_tells}
 use Rattle.std.proofs.lemmas.List.{length-replicate}
 use Rattle.std.proofs.lemmas.Option.{slice_get_within, same_Some}
 use Rattle.can_model.specs.declared.database.Message.{Message}
-use Rattle.can_model.specs.declared.database.Signal.{Signal}
 use Rattle.can_model.specs.Active.{value_at}
 use Rattle.can_model.specs.Frame.{IsFrame}
 use Rattle.can_model.specs.Validity.{IsOfValidDatabase}
@@ -31,14 +30,14 @@ use Rattle.c_mem.specs.Cells.{CellsOf, filled}
 use Rattle.c_operators.specs.Value.{typed}
 use Rattle.c_operators.specs.declared.value.Value.TheVariants.{Pointer as pointer}
 use Rattle.c_operators.proofs.Models.{IsOneOf}
-use Rattle.c_operators.proofs.Numbers.{convert-fits, fits-Int, fits-at}
-use Rattle.c_effect.specs.declared.state.Flow.TheVariants.{Next, Returned}
+use Rattle.c_operators.proofs.Numbers.{convert-fits, fits-Int}
+use Rattle.c_effect.specs.declared.state.Flow.TheVariants.{Returned}
 use Rattle.c_effect.specs.declared.state.Held.TheVariants.{Integer as Number, Pointer as Address}
 use Rattle.c_effect.specs.Locals.{Block, held_by, opened, closed}
 use Rattle.c_effect.specs.World.{World}
 use Rattle.c_effect.specs.Ending.{after, sequence}
 use Rattle.c_effect.specs.StatementEffect.{effects_of}
-use Rattle.c_effect.specs.FunctionCall.{Ended, run_in, unit_world}
+use Rattle.c_effect.specs.FunctionCall.{run_in, unit_world}
 use Rattle.c_effect.proofs.Calls.{parameters, runs-returned}
 use Rattle.c_effect.proofs.Locals.{reads-number, reads-pointer}
 use Rattle.c_effect.proofs.Placeless.{no_place, grown_stmt, grown_list, grown_function}
@@ -50,7 +49,7 @@ use Rattle.gen_pack.specs.Named.{IsNamed}
 use Rattle.gen_pack.specs.Packs.{IsSize, arguments, HaveActive, returning, with_frame, HasStruct, HasHelpersOf}
 use Rattle.gen_pack.specs.Switches.{HasNoParent}
 use Rattle.gen_pack.proofs.Members.{Among, all-among, all-if}
-use Rattle.gen_pack.proofs.OwnLocals.{IsOther, IsFree, HaveOwn, have-own, all-free}
+use Rattle.gen_pack.proofs.OwnLocals.{IsFree, HaveOwn, have-own, all-free}
 use Rattle.gen_pack.proofs.Segments.{Scene, IsBuffer, shown}
 use Rattle.gen_pack.proofs.Putting.{Held, IsReady, Puts, SomeHas, puts-each, puts-part, puts-same, through-both, HasLocalOf}
 use Rattle.gen_pack.proofs.Fields.{slot-of-part}
@@ -138,13 +137,13 @@ module _ (m : DataModel) (one : IsOneOf m) (items : List Item) (message : Messag
       let first : List Block = start to from given in
       ends-with objects objects to from given (pos 0) first
       (ap (λ b. sequence (effects_of w (map grown_stmt b)) first objects) (empty-is none)
-        ∙ sequence-first w first objects (grown_stmt (discard buffer)) (map grown_stmt (discard source ∷ discard size ∷ returned (number 0) ∷ [])) first objects
-          (discards w first objects no_place buffer (pointer to) (reads-pointer buffer to first (buffer-held to from given)))
-        ∙ sequence-first w first objects (grown_stmt (discard source)) (map grown_stmt (discard size ∷ returned (number 0) ∷ [])) first objects
-          (discards w first objects no_place source (pointer from) (reads-pointer source from first (source-held to from given)))
-        ∙ sequence-first w first objects (grown_stmt (discard size)) (map grown_stmt (returned (number 0) ∷ [])) first objects
-          (discards w first objects no_place size _ (reads-number size (size_type m) (pos given) first (size-held to from given small)))
-        ∙ returns-number w one first objects 0 (omega arith))
+      ∙ sequence-first w first objects (grown_stmt (discard buffer)) (map grown_stmt (discard source ∷ discard size ∷ returned (number 0) ∷ [])) first objects
+      (discards w first objects no_place buffer (pointer to) (reads-pointer buffer to first (buffer-held to from given)))
+      ∙ sequence-first w first objects (grown_stmt (discard source)) (map grown_stmt (discard size ∷ returned (number 0) ∷ [])) first objects
+      (discards w first objects no_place source (pointer from) (reads-pointer source from first (source-held to from given)))
+      ∙ sequence-first w first objects (grown_stmt (discard size)) (map grown_stmt (returned (number 0) ∷ [])) first objects
+      (discards w first objects no_place size _ (reads-number size (size_type m) (pos given) first (size-held to from given small)))
+      ∙ returns-number w one first objects 0 (omega arith))
       (int-fits 0 (omega arith))
 
   module _ (named : IsNamed message names) (valid : IsOfValidDatabase message) where
@@ -191,8 +190,8 @@ module _ (m : DataModel) (one : IsOneOf m) (items : List Item) (message : Messag
         let d = declared-from objects to from given in
         ends-with objects objects to from given (negsuc 21) (closed (opened d.left))
         (to-test objects to from given (omega arith)
-          ∙ sequence-last w d.left objects (grown_stmt (size_asked (number 22) message.length)) (map grown_stmt (cleared message.length ∷ (all_put (parts_of message names) ++ returned (number message.length) ∷ []))) (Some (typed t.Int (negsuc 21))) (closed (opened d.left)) objects
-            (refuses w one d.left objects given message.length (size-still objects to from given small) (fits given small) (omega (arith, few)) lt))
+        ∙ sequence-last w d.left objects (grown_stmt (size_asked (number 22) message.length)) (map grown_stmt (cleared message.length ∷ (all_put (parts_of message names) ++ returned (number message.length) ∷ []))) (Some (typed t.Int (negsuc 21))) (closed (opened d.left)) objects
+        (refuses w one d.left objects given message.length (size-still objects to from given small) (fits given small) (omega (arith, few)) lt))
         (negative-int w one)
 
     -- ---- the frame
@@ -261,8 +260,8 @@ module _ (m : DataModel) (one : IsOneOf m) (items : List Item) (message : Messag
       puts-all =
           subst (λ xs. PutsHere xs (IsSetBelow message values (length message.signals))) (sym (all-put-flat message.signals names.signals flat))
           (puts-same m one items objects to from message.length names.tag values scene rest (parts_of message names) (flat_map part_put (parts_of message names)) (SomeHas (parts_of message names) (IsPutBy values)) (IsSetBelow message values (length message.signals))
-            (puts-each m one items objects to from message.length names.tag values scene rest (parts_of message names) part_put (IsPutBy values) (parts_of message names) puts-one)
-            (puts-frame message names values flat named.signals))
+          (puts-each m one items objects to from message.length names.tag values scene rest (parts_of message names) part_put (IsPutBy values) (parts_of message names) puts-one)
+          (puts-frame message names values flat named.signals))
 
       zeros : IsBuffer message.length zero_bytes
       unfolding zero_bytes
@@ -301,9 +300,9 @@ module _ (m : DataModel) (one : IsOneOf m) (items : List Item) (message : Messag
           let w : World = unit_world m items in
           let n : ℕ = message.length in
           sequence-first w after_declared objects (grown_stmt (size_asked (number 22) n)) (map grown_stmt (cleared n ∷ putting)) after_declared objects
-            (lets w one after_declared objects given n size-here (fits given small) (omega (arith, few)) le)
+          (lets w one after_declared objects given n size-here (fits given small) (omega (arith, few)) le)
           ∙ sequence-first w after_declared objects (grown_stmt (cleared n)) (map grown_stmt putting) after_declared (slice_set objects to (Bytes (filled cells 0 n)))
-            (clears w one after_declared objects to n cells (omega (arith, few)) held.pointers.buffer_is there (omega (arith, le, room)))
+          (clears w one after_declared objects to n cells (omega (arith, few)) held.pointers.buffer_is there (omega (arith, le, room)))
           ∙ ap (λ o. sequence (effects_of w (map grown_stmt putting)) after_declared o) cleared-shows
 
       pub packs-frame : (bytes : List ℕ) × IsFrame message values bytes
@@ -313,12 +312,14 @@ module _ (m : DataModel) (one : IsOneOf m) (items : List Item) (message : Messag
           let w : World = unit_world m items in
           let n : ℕ = message.length in
           let all = puts-all after_declared held zero_bytes zeros in
-          let is_long : length all.new ≡ n = all.adds.size ∙ zeros.length_is in
-          (all.new, framed-here all.new all.adds,
+          let is_long : length all.new ≡ n = all.adds.size ∙ zeros.length_is in (
+            all.new,
+            framed-here all.new all.adds,
             ends-with objects (with_frame objects to all.new cells) (At to) (At from) given (pos n) all.left
-            (test-here
-              ∙ cleared-here
-              ∙ through-both w (all_put (parts_of message names)) (returned (number n) ∷ []) after_declared all.left (shows zero_bytes) (shows all.new) all.is
-              ∙ ap (λ o. sequence (effects_of w (map grown_stmt (returned (number n) ∷ []))) all.left o) (shows-frame all.new is_long)
-              ∙ returns-number w one all.left (with_frame objects to all.new cells) n (omega (arith, few)))
-            (int-fits n (omega (arith, few))))
+                (test-here
+                ∙ cleared-here
+                ∙ through-both w (all_put (parts_of message names)) (returned (number n) ∷ []) after_declared all.left (shows zero_bytes) (shows all.new) all.is
+                ∙ ap (λ o. sequence (effects_of w (map grown_stmt (returned (number n) ∷ []))) all.left o) (shows-frame all.new is_long)
+                ∙ returns-number w one all.left (with_frame objects to all.new cells) n (omega (arith, few)))
+                (int-fits n (omega (arith, few))),
+          )

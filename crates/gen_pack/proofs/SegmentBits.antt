@@ -1,13 +1,13 @@
 -- The bits that a helper moves: of a value's pattern, those of a segment, put into their byte.
 use Rattle.std.proofs.Common.{◌≡◌, ℕ, zero, suc, ◌+◌, ◌-◌, ◌*◌, ◌/◌, ◌%◌, ◌^◌, ◌<◌, ◌≤◌, max, min, Bool, true, false, List, length, set, get_or, inl, inr, refl, sym, ap, subst, ◌∙◌, arith, pos, negsuc, ℤ}
-use Rattle.std.specs.Prelude.{◌⊎◌, ◌↔◌, ◌==◌, ◌||◌, not, if◌then◌else◌, MatchBool, bit_and, bit_or, nat_le, unsigned_abs}
+use Rattle.std.specs.Prelude.{◌⊎◌, ◌↔◌, ◌==◌, ◌||◌, not, if◌then◌else◌, MatchBool, bit_and, bit_or, unsigned_abs}
 use Rattle.std.specs.Int.{bit_at, Width}
 use mir.Syntax.{w8, w16, w32, w64}
 use mir.Val.{bits}
 use Rattle.std.proofs.lemmas.Nat.{or_lt, and_le_l}
 use Rattle.std.proofs.lemmas.Nat.Bits.{bit_at_and, bit_at_or, bit_at-lt, bit_at_not, bit_at_mask_inside, bit_at_mask_below, bit_at_mask_above, bit_at_cat_low, bit_at_cat_high}
 use Rattle.std.proofs.lemmas.List.{length-set, get_or-set_same, get_or-set_other}
-use Rattle.std.proofs.lemmas.Bool.Decides.{nat_tests, leb_tells, eqb_tells}
+use Rattle.std.proofs.lemmas.Bool.Decides.{leb_tells, eqb_tells}
 use Rattle.std.proofs.Math.Nat.{mod-lt}
 use Rattle.std.proofs.Math.Pow.{shr-shr, pow_pos, split}
 use Rattle.can_model.specs.declared.database.Signal.{Signal}
@@ -35,13 +35,13 @@ left-inside : (x s lo hi j : ℕ) → lo ≤ j → j < hi → hi ≤ 8 → s ≤
 left-inside x s lo hi j a b c d =
     bit_at_and (x * 2 ^ s % 2 ^ 8) (2 ^ hi - 2 ^ lo) j
     ∙ rw (bit_at_mask_inside lo hi j a b, min-one (bit_at (x * 2 ^ s % 2 ^ 8) j) (bit_at-lt _ j)) (bit-mod (x * 2 ^ s) 8 j (omega arith)
-      ∙ (let e : x * 2 ^ s ≡ x * 2 ^ s + 0 = omega arith in ap (λ n. bit_at n j) e) ∙ bit_at_cat_high x s 0 j (pow_pos s) d)
+    ∙ (let e : x * 2 ^ s ≡ x * 2 ^ s + 0 = omega arith in ap (λ n. bit_at n j) e) ∙ bit_at_cat_high x s 0 j (pow_pos s) d)
 
 right-inside : (x s lo hi j : ℕ) → lo ≤ j → j < hi → hi ≤ 8 → bit_at (bit_and (x / 2 ^ s % 2 ^ 8) (2 ^ hi - 2 ^ lo)) j ≡ bit_at x (s + j)
 right-inside x s lo hi j a b c =
     bit_at_and (x / 2 ^ s % 2 ^ 8) (2 ^ hi - 2 ^ lo) j
     ∙ rw (bit_at_mask_inside lo hi j a b, min-one (bit_at (x / 2 ^ s % 2 ^ 8) j) (bit_at-lt _ j)) (bit-mod (x / 2 ^ s) 8 j (omega arith)
-      ∙ ap (λ n. n % 2) (shr-shr x s j))
+    ∙ ap (λ n. n % 2) (shr-shr x s j))
 
 outside-below : (y lo hi j : ℕ) → j < lo → bit_at (bit_and y (2 ^ hi - 2 ^ lo)) j ≡ 0
 outside-below y lo hi j h = bit_at_and y (2 ^ hi - 2 ^ lo) j ∙ rw (bit_at_mask_below lo hi j h) (omega arith)
@@ -251,7 +251,7 @@ module _ (s : Signal) (v : ℤ) (w : ℕ) (g : Segment) (enough : s.length ≤ w
       let rest : p % 8 ≡ g.byte_low + (k - g.signal_low) = omega (arith, within.in_byte) in
       let back : p % 8 - g.byte_low + g.signal_low ≡ k = omega arith in
       let bit : has_bit given (p % 8) ≡ has_bit (low_of w v) k =
-          ap (λ b. b == 1) (inside w (low_of w v) g (p % 8) within.in_byte (omega arith) (omega arith) ∙ ap (bit_at (low_of w v)) back) in
+      ap (λ b. b == 1) (inside w (low_of w v) g (p % 8) within.in_byte (omega arith) (omega arith) ∙ ap (bit_at (low_of w v)) back) in
       (byte, bit ∙ some.bits_are k (omega arith) ∙ h.3)
 
   pub adds-segment : (bytes : List ℕ) → g.byte < length bytes → AddsOnes bytes (with_byte bytes g.byte (byte_given w (low_of w v) g)) (IsOfSegment s v g)

@@ -1,21 +1,18 @@
 -- The statements of a signal's segments: each joins its bits to its byte of the buffer, and together they put the bits of the value.
-use Rattle.std.proofs.Common.{◌≡◌, ℕ, zero, suc, ◌+◌, ◌*◌, ◌^◌, ◌<◌, ◌≤◌, true, false, List, [], ◌∷◌, ◌++◌, length, map, set, get_or, Option, Some, None, inl, inr, refl, sym, ap, subst, ◌∙◌, arith, Ok, pos, ℤ}
-use Rattle.std.specs.Prelude.{◌⊎◌, ◌≢◌, ◌↔◌, bit_or, slice_get, slice_set, nat_le, IsSomeAnd}
+use Rattle.std.proofs.Common.{◌≡◌, ℕ, zero, suc, ◌+◌, ◌*◌, ◌^◌, ◌<◌, ◌≤◌, true, false, List, [], ◌∷◌, ◌++◌, length, map, set, get_or, Option, Some, inl, inr, refl, ap, subst, ◌∙◌, arith, Ok, pos, ℤ}
+use Rattle.std.specs.Prelude.{◌⊎◌, ◌≢◌, ◌↔◌, bit_or, slice_get, slice_set, IsSomeAnd}
 use Rattle.std.specs.List.{AllByRecursion}
 use Rattle.std.proofs.Math.Pow.{pow_mono, pow_pos}
 use Rattle.std.proofs.lemmas.Bool.Decides.{leb_tells}
-use Rattle.std.proofs.lemmas.List.{length-map, length-set}
+use Rattle.std.proofs.lemmas.List.{length-map}
 use Rattle.std.proofs.lemmas.Option.{slice_get-get_or, slice_get-map}
 use Rattle.can_model.specs.declared.database.Signal.{Signal}
 use Rattle.can_model.specs.Place.{place_of, IsAt}
 use Rattle.can_model.specs.Frame.{has_bit_in}
-use Rattle.can_model.proofs.Elements.{some_and}
 use Rattle.frame_codec.specs.Ones.{AreBytes, AddsOnes, IsBitBelow}
 use Rattle.c_text.specs.declared.token.IntType.{IntType}
 use Rattle.c_text.specs.declared.token.IntType.TheVariants as t
 use Rattle.c_tree.specs.declared.item.Item.{Item}
-use Rattle.c_tree.specs.BareExpression.{Tree}
-use Rattle.c_tree.specs.BareStatement.{Action}
 use Rattle.c_widths.specs.DataModel.{DataModel}
 use Rattle.c_widths.specs.Conversion.{wrap}
 use Rattle.c_mem.specs.declared.objects.Object.{Object}
@@ -29,7 +26,7 @@ use Rattle.c_effect.specs.declared.state.Held.TheVariants.{Pointer as Address}
 use Rattle.c_effect.specs.Locals.{Block, held_by}
 use Rattle.c_effect.specs.World.{World}
 use Rattle.c_effect.specs.Ending.{after, sequence}
-use Rattle.c_effect.specs.StatementEffect.{effect, effects_of}
+use Rattle.c_effect.specs.StatementEffect.{effects_of}
 use Rattle.c_effect.specs.FunctionCall.{unit_world}
 use Rattle.c_effect.proofs.Expressions.{Gives, gives-int, gives-unsigned}
 use Rattle.c_effect.proofs.Locals.{points-at}
@@ -41,7 +38,6 @@ use Rattle.bit_layout.specs.declared.walk.Segment.{Segment}
 use Rattle.bit_layout.specs.Covers.{IsWithin, HasBit, TellsPlaces, Covers}
 use Rattle.bit_layout.specs.Segments.{segments_of}
 use Rattle.bit_layout.proofs.Covering.{segments-cover}
-use Rattle.shift_helpers.specs.declared.helper.HelperKind.TheVariants.{PackLeft, PackRight}
 use Rattle.shift_helpers.specs.HelperResult.{IsWidth, taken_width, given_width, shift_limit}
 use Rattle.shift_helpers.proofs.Helping.{calls-helper}
 use Rattle.gen_pack.specs.SegmentMove.{width_of, pack_kind, pack_shift, mask_of}
@@ -175,22 +171,22 @@ module _ (m : DataModel) (one : IsOneOf m) (items : List Item) (objects : List O
         let old : ℕ = get_or bytes g.byte 0 in
         let given : ℕ = byte_given w low g in
         let called : Gives world locals (shown bytes) _ _ _ =
-            calls-helper m one items locals (shown bytes) no_place (pack_kind g) w iw helper.given (grown (taken x)) (grown (unsigned (pack_shift g) 10)) (grown (unsigned (mask_of g) 16))
-            takes.kind t.UnsignedInt t.UnsignedInt takes.taken_number low (pack_shift g) (mask_of g) helper.found helper.same
-            (takes.gives bytes) (rw c.takes takes.is) (rw c.takes p.below)
-            (gives-unsigned world locals (shown bytes) one no_place (pack_shift g) 10 (omega (arith, c.small))) c.shift
-            (gives-unsigned world locals (shown bytes) one no_place (mask_of g) 16 (omega (arith, c.mask))) c.mask in
+        calls-helper m one items locals (shown bytes) no_place (pack_kind g) w iw helper.given (grown (taken x)) (grown (unsigned (pack_shift g) 10)) (grown (unsigned (mask_of g) 16))
+        takes.kind t.UnsignedInt t.UnsignedInt takes.taken_number low (pack_shift g) (mask_of g) helper.found helper.same
+        (takes.gives bytes) (rw c.takes takes.is) (rw c.takes p.below)
+        (gives-unsigned world locals (shown bytes) one no_place (pack_shift g) 10 (omega (arith, c.small))) c.shift
+        (gives-unsigned world locals (shown bytes) one no_place (mask_of g) 16 (omega (arith, c.mask))) c.mask in
         let byte = rw (c.returns, exact-byte m one) at called in
         let inside : g.byte < length bytes = omega (arith, b.length_is) in
         let inside_cells : g.byte < length (map {B = Option ℕ} Some bytes) = simp length-map inside in
         let cell : slice_get (map Some bytes ++ rest) g.byte ≡ Some (Some old) =
-            get-front (map Some bytes) rest g.byte inside_cells ∙ slice_get-map Some bytes g.byte ∙ rw (slice_get-get_or bytes g.byte 0 inside) refl in
+        get-front (map Some bytes) rest g.byte inside_cells ∙ slice_get-map Some bytes g.byte ∙ rw (slice_get-get_or bytes g.byte 0 inside) refl in
         let ends = ors-element world locals (shown bytes) one no_place no_place buffer (grown (number g.byte)) _ t.Int to g.byte old given (map Some bytes ++ rest)
-            (record { points = points-at buffer (At to) locals held.buffer_is; there = bytes-there bytes })
-            (gives-int world locals (shown bytes) one no_place g.byte (omega (arith, scene.few))) byte cell (b.are g.byte) (byte-small w low g) in
+        (record { points = points-at buffer (At to) locals held.buffer_is; there = bytes-there bytes })
+        (gives-int world locals (shown bytes) one no_place g.byte (omega (arith, scene.few))) byte cell (b.are g.byte) (byte-small w low g) in
         let same : slice_set (shown bytes) to (Bytes (slice_set (map Some bytes ++ rest) g.byte (Some (bit_or old given)))) ≡ shown (with_byte bytes g.byte given) =
-            set-set objects to _ _
-            ∙ ap (λ r. slice_set objects to (Bytes r)) (set-front (map Some bytes) rest g.byte (Some (bit_or old given)) inside_cells ∙ ap (λ r. r ++ rest) (set-map Some bytes g.byte (bit_or old given))) in
+        set-set objects to _ _
+        ∙ ap (λ r. slice_set objects to (Bytes r)) (set-front (map Some bytes) rest g.byte (Some (bit_or old given)) inside_cells ∙ ap (λ r. r ++ rest) (set-map Some bytes g.byte (bit_or old given))) in
         subst (λ new. Ends world locals (shown bytes) (grown_stmt (segment_put x g)) (Ok Next) locals new) same ends
 
     -- the statements of segments

@@ -1,5 +1,5 @@
 -- The statements around those of the signals: the size test, `memset`, what is discarded, and what is returned.
-use Rattle.std.proofs.Common.{◌≡◌, ℕ, ◌^◌, ◌<◌, ◌≤◌, Bool, true, false, List, [], ◌∷◌, length, map, drop, replicate, Option, Some, None, refl, ap, ◌∙◌, arith, Ok, pos, negsuc, ℤ}
+use Rattle.std.proofs.Common.{◌≡◌, ℕ, ◌^◌, ◌<◌, ◌≤◌, Bool, true, false, List, [], ◌∷◌, length, map, Some, refl, ◌∙◌, arith, Ok, pos, negsuc}
 use Rattle.std.specs.Prelude.{slice_get, slice_set, nat_lt, if◌then◌else◌}
 use Rattle.std.proofs.lemmas.Bool.Decides.{nat_tests}
 use Rattle.c_text.specs.declared.token.IntType.TheVariants as t
@@ -15,8 +15,8 @@ use Rattle.c_widths.specs.Conversion.{convert, wrap}
 use Rattle.c_operators.specs.declared.value.Value.TheVariants.{Integer, Pointer as pointer}
 use Rattle.c_operators.specs.Value.{typed, is_true}
 use Rattle.c_operators.proofs.Models.{IsOneOf, for_each}
-use Rattle.c_operators.proofs.Exact.{Sizes, sizes, size-fits}
-use Rattle.c_operators.proofs.Numbers.{convert-fits, fits-at, operate-Less, signed-Minus}
+use Rattle.c_operators.proofs.Exact.{sizes, size-fits}
+use Rattle.c_operators.proofs.Numbers.{convert-fits, operate-Less, signed-Minus}
 use Rattle.c_widths.specs.Promotion.{promote}
 use Rattle.c_effect.specs.declared.state.Flow.TheVariants.{Next, Returned}
 use Rattle.c_effect.specs.declared.state.Held.TheVariants.{Integer as Number, Pointer as Address}
@@ -30,7 +30,7 @@ use Rattle.c_effect.proofs.Placeless.{no_place, grown, grown_stmt}
 use Rattle.c_effect.proofs.Sequences.{sequence-first, sequence-last}
 use Rattle.c_effect.proofs.Statements.{Ends, ends-Return, ends-If-taken, ends-If-passed, ends-Block, discards, memset-fills}
 use Rattle.gen_pack.specs.Parts.{Part}
-use Rattle.gen_pack.specs.PackTree.{buffer, source, size, number, unsigned, returned, size_below, negative, size_asked, cleared, unread}
+use Rattle.gen_pack.specs.PackTree.{buffer, source, size, number, returned, size_below, negative, size_asked, cleared, unread}
 
 truth : (b : Bool) → is_true (Integer (typed t.Int (if b then pos 1 else pos 0))) ≡ b
 truth true = refl
@@ -66,7 +66,7 @@ module _ (w : World) (one : IsOneOf w.model) (locals : List Block) (objects : Li
       let e = error-is w one in
       sequence-last w locals objects _ [] _ locals objects
       (ends-Return w locals objects no_place _ t.Int (negsuc 21) (gives-Bracket w locals objects no_place _ t.Int (negsuc 21)
-        (gives-Unary w locals objects no_place u.Minus _ t.Int t.Int (pos 22) (negsuc 21) (gives-int w locals objects one no_place 22 (omega arith)) (signed-Minus w.model t.Int t.Int 21 e.promotes e.is e.negative))))
+      (gives-Unary w locals objects no_place u.Minus _ t.Int t.Int (pos 22) (negsuc 21) (gives-int w locals objects one no_place 22 (omega arith)) (signed-Minus w.model t.Int t.Int 21 e.promotes e.is e.negative))))
 
 -- ---- the size test
 

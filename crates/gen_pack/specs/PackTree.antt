@@ -1,10 +1,9 @@
 -- A message's pack function as a tree (ISO/IEC 9899:1999, 6.5 to 6.9): each segment of each signal is put into its byte by a helper.
-use Rattle.std.specs.Prelude.{ℕ, zero, suc, Bool, true, false, not, ◌==◌, nat_le, if◌then◌else◌, List, [], ◌∷◌, ◌++◌, map, length, codes, Option, Some, None}
+use Rattle.std.specs.Prelude.{ℕ, zero, suc, true, false, not, ◌==◌, nat_le, if◌then◌else◌, List, [], ◌∷◌, ◌++◌, map, length, codes, Option, Some, None}
 use Rattle.std.specs.List.{filter, flat_map}
 use Rattle.can_model.specs.declared.database.Message.{Message}
 use Rattle.name_rules.specs.declared.table.MessageNames.{MessageNames}
 use Rattle.c_text.specs.declared.token.IntType.TheVariants.{Int}
-use Rattle.c_text.specs.declared.token.Spelled.{Spelled}
 use Rattle.c_text.specs.declared.token.Spelled.TheVariants.{Exact, Plain, Size}
 use Rattle.c_tree.specs.declared.expression.Callee.TheVariants.{Name, Memset}
 use Rattle.c_tree.specs.declared.expression.BinaryOp.TheVariants.{Less}
@@ -21,7 +20,6 @@ use Rattle.bit_layout.specs.declared.walk.Segment.{Segment}
 use Rattle.bit_layout.specs.Segments.{segments_of}
 use Rattle.shift_helpers.specs.HelperTree.{helper_name}
 use Rattle.gen_pack.specs.SegmentMove.{width_of, pack_kind, pack_shift, mask_of}
-use Rattle.gen_pack.specs.StructFields.{field_type}
 use Rattle.gen_pack.specs.Parts.{Part, parts_of}
 use Rattle.gen_pack.specs.Switches.{Case, is_root, is_selector, cases_of}
 
@@ -66,8 +64,8 @@ taken x = name_or x.names.local (field x)
 abbrev pub segment_put : Part → Segment → Action
 segment_put x g =
     assign (element buffer (number g.byte)) BitOr
-        (call (Name (helper_name (pack_kind g) (width_of x.signal)))
-            (more (taken x) (more (unsigned (pack_shift g) 10) (more (unsigned (mask_of g) 16) none))))
+    (call (Name (helper_name (pack_kind g) (width_of x.signal)))
+    (more (taken x) (more (unsigned (pack_shift g) 10) (more (unsigned (mask_of g) 16) none))))
 
 -- uintW_t local;
 abbrev pub local_declared : Option (List ℕ) → ℕ → List Action

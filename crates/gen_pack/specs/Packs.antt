@@ -1,5 +1,5 @@
 -- What a pack function does when it is called (ISO/IEC 9899:1999, 6.5.2.2), under each data model and in any unit that has what it calls.
-use Rattle.std.specs.Prelude.{◌≡◌, ℕ, ◌^◌, ◌<◌, ◌≤◌, true, List, [], ◌∷◌, ◌++◌, map, length, drop, slice_get, slice_set, IsSomeAnd, Option, Some, None, Ok, ℤ, pos, negsuc}
+use Rattle.std.specs.Prelude.{◌≡◌, ℕ, ◌^◌, ◌<◌, ◌≤◌, true, List, [], ◌∷◌, ◌++◌, map, length, drop, slice_get, slice_set, IsSomeAnd, Some, None, Ok, ℤ, pos, negsuc}
 use Rattle.std.specs.List.{AllByRecursion}
 use Rattle.can_model.specs.declared.database.Message.{Message}
 use Rattle.can_model.specs.declared.database.Signal.{Signal}
@@ -29,7 +29,6 @@ use Rattle.c_types.specs.Setting.{structs, definitions}
 use Rattle.c_effect.specs.declared.state.Arg.{Arg}
 use Rattle.c_effect.specs.declared.state.Arg.TheVariants as arg
 use Rattle.c_effect.specs.FunctionCall.{Ended, ended, call}
-use Rattle.bit_layout.specs.declared.walk.Segment.{Segment}
 use Rattle.bit_layout.specs.Segments.{segments_of}
 use Rattle.shift_helpers.specs.declared.helper.HelperKind.{HelperKind}
 use Rattle.shift_helpers.specs.HelperTree.{helper_name, helper}

@@ -1,5 +1,5 @@
 -- The fields of a message's struct (ISO/IEC 9899:1999, 6.7.2.1 and 7.18.1.1): one for each signal, in their order.
-use Rattle.std.specs.Prelude.{ℕ, false, List, [], ◌∷◌, codes}
+use Rattle.std.specs.Prelude.{false, List, [], ◌∷◌, codes}
 use Rattle.can_model.specs.declared.database.Message.{Message}
 use Rattle.can_model.specs.declared.database.Signal.{Signal}
 use Rattle.name_rules.specs.declared.table.MessageNames.{MessageNames}

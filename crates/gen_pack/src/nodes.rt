@@ -2,6 +2,7 @@
 ghost use Rattle.std.specs.Prelude.{◌≡◌, Some, IfOk};
 ghost use Rattle.c_tree.specs.BareExpression.{bare_expression, name};
 ghost use Rattle.c_tree.specs.BareStatement.{bare_statement, discard};
+ghost use Rattle.shift_helpers.specs.HelperTree as HelperTree;
 ghost use Rattle.gen_pack.specs.PackTree as spec;
 
 use c_text::{Constant, Place};
@@ -10,7 +11,9 @@ use cg_out::{Boxed, Memory, Text};
 use std::alloc::Global;
 
 /// The place of a tree that no text has.
-pub fn nowhere() -> Place {
+pub fn nowhere() -> Place
+    ensures { result ≡ HelperTree.nowhere }
+{
     Place {
         header: false,
         line: 0,

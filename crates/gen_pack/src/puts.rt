@@ -109,15 +109,22 @@ fn put_segments(
     Ok(())
 }
 
+/// `uintW_t`
+fn unsigned_type(width: u32) -> Spelled
+    ensures { result ≡ Exact width false }
+{
+    Spelled::Exact {
+        width,
+        signed: false,
+    }
+}
+
 /// `local = (uintW_t)src_p->field;`
 fn local_set(alloc: Global, local: &[u8], width: u32, names: &SignalNames) -> Result<Stmt, Memory>
     ensures { IfOk result (λ s. bare_statement s ≡ assign (name local.now) Set (cast (Exact width false) (member spec.source names.now.field))) }
 {
     let operand = Boxed::new(alloc, field(alloc, names)?)?;
-    let to = Spelled::Exact {
-        width,
-        signed: false,
-    };
+    let to = unsigned_type(width);
     Ok(stmt(StmtKind::Assign {
         target: name_of(alloc, local)?,
         op: AssignOp::Set,
@@ -159,10 +166,7 @@ fn local_declared(alloc: Global, local: &[u8], width: u32) -> Result<Stmt, Memor
     ensures { IfOk result (λ s. bare_statement s ≡ declare (Exact width false) local.now None) }
 {
     Ok(stmt(StmtKind::Declare {
-        kind: Spelled::Exact {
-            width,
-            signed: false,
-        },
+        kind: unsigned_type(width),
         name: Text::copy_of(alloc, local)?,
         value: None,
     }))

@@ -1,5 +1,5 @@
 -- One part of the body is put behind another.
-use Rattle.std.proofs.Common.{◌≡◌, [], ◌∷◌, ◌++◌, map, List, ap, ◌∙◌}
+use Rattle.std.proofs.Common.{[], ◌∷◌, ◌++◌, map, List, ap, ◌∙◌}
 use Rattle.std.specs.List.{flat_map}
 use Rattle.c_tree.specs.BareExpression.{name}
 use Rattle.c_tree.specs.BareStatement.{Action, bare_statement}
@@ -14,9 +14,9 @@ returns c =
     let ps = parts_from 0 c.args.signals.now c.args.names.now in
     c.in_ok-put_returned.ensures
     ∙ ap (λ (r : List Action). r ++ returned (number n) ∷ [])
-      (c.in_ok-put_signals.ensures ∙ ap (λ (r : List Action). r ++ flat_map part_put ps)
-        (c.in_ok-put_cleared.ensures ∙ ap (λ (r : List Action). r ++ cleared n ∷ [])
-          (c.in_ok-put_size_asked.ensures ∙ ap (λ (r : List Action). r ++ size_asked (name error_name) n ∷ [])
-            (c.in_ok-put_declarations.ensures ∙ ap (λ (r : List Action). r ++ flat_map declared ps)
-              (c.in_ok-put_unread.ensures ∙ ap (λ r. map bare_statement r ++ unread ps) c.new-out.ensures)))))
+    (c.in_ok-put_signals.ensures ∙ ap (λ (r : List Action). r ++ flat_map part_put ps)
+    (c.in_ok-put_cleared.ensures ∙ ap (λ (r : List Action). r ++ cleared n ∷ [])
+    (c.in_ok-put_size_asked.ensures ∙ ap (λ (r : List Action). r ++ size_asked (name error_name) n ∷ [])
+    (c.in_ok-put_declarations.ensures ∙ ap (λ (r : List Action). r ++ flat_map declared ps)
+    (c.in_ok-put_unread.ensures ∙ ap (λ r. map bare_statement r ++ unread ps) c.new-out.ensures)))))
     ∙ long-body-is (name error_name) n c.args.signals.now c.args.names.now c.requires.flat
