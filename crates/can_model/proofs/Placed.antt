@@ -16,7 +16,7 @@ no_fault m j s kind v at h =
     let f : Fault = record { kind = kind; line = s.line; message = m.name; signal = s.name } in
     v.2 (signal v.1 j) f (and_some _ (slice_get v.0.messages v.1) m v.3 (and_some _ (slice_get m.signals j) s at (h, refl)))
 
-not_long : (m : Message) → IsOfValidDatabase m → m.length ≤ 2048
+pub not_long : (m : Message) → IsOfValidDatabase m → m.length ≤ 2048
 not_long m v = by (nat_lt 2048 m.length) refl where
   told : Fault
   told = record { kind = MessageTooLong; line = m.line; message = m.name; signal = [] }

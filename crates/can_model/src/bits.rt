@@ -66,8 +66,8 @@ pub fn is_field_value(length: u32, signed: bool, value: i128) -> bool
     is_raw(field_bits(length), signed, value)
 }
 
-/// How many bits the C field of a signal of this many bits has.
-fn field_bits(length: u32) -> u32
+/// How many bits the C field of a signal of this many bits has: 8, 16, 32 or 64.
+pub fn field_bits(length: u32) -> u32
     ensures { result ≡ field_bits length }
 {
     match length {

@@ -16,7 +16,7 @@ mod database;
 mod refusal;
 
 pub use activity::{active, active_in};
-pub use bits::{has_bits, is_field_value, is_raw, place};
+pub use bits::{field_bits, has_bits, is_field_value, is_raw, place};
 pub use check_kind::CheckKind;
 pub use database::{Choice, Database, Message, MuxRange, Parent, Signal};
 pub use refusal::{TEXT_LIMIT, TextFault, TextKind};

@@ -143,7 +143,7 @@ all_bytes : (xs : List ℕ) → AreBytes xs → AllByRecursion (λ b. b < 256) x
 all_bytes [] h = tt
 all_bytes (x ∷ xs) h = (h 0, all_bytes xs (λ i. h (suc i)))
 
-zero_at : (n i : ℕ) → get_or {A = ℕ} (replicate n 0) i 0 ≡ 0
+pub zero_at : (n i : ℕ) → get_or {A = ℕ} (replicate n 0) i 0 ≡ 0
 zero_at n i = elim (below_or_from i n) [ inl lt ↦ get_or-replicate n i 0 0 lt | inr le ↦ get_or_past (replicate n 0) i 0 (subst (λ k. k ≤ i) (sym (length-replicate n 0)) le) ]
 
 none_of_zeros : (n p : ℕ) → is_one (replicate n 0) p ≡ true → ⊥

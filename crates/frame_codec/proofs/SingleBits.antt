@@ -64,7 +64,7 @@ pub one_shifted : (j : ℕ) → j < 8 → 1 * 2 ^ j % 256 ≡ 2 ^ j
 one_shifted j lt = let below : 2 ^ j < 2 ^ 8 = pow-lt lt in ap (λ n. n % 256) (omega arith) ∙ mod-eq_of_lt below
 
 -- bytes stay bytes where one is set
-bytes_set : (xs : List ℕ) (i y : ℕ) → AreBytes xs → y < 256 → AreBytes (set xs i y)
+pub bytes_set : (xs : List ℕ) (i y : ℕ) → AreBytes xs → y < 256 → AreBytes (set xs i y)
 bytes_set [] i y h lt k = h k
 bytes_set (x ∷ xs) zero y h lt zero = lt
 bytes_set (x ∷ xs) zero y h lt (suc k) = h (suc k)

@@ -16,3 +16,4 @@ mod naming;
 mod parts;
 
 pub use helper::{Helper, HelperKind};
+pub use naming::helper_name;
