@@ -12,6 +12,7 @@ use Rattle.name_rules.proofs.NamesApart.{identifier-bytes}
 use Rattle.c_text.specs.Characters.{goes_on, Pass}
 use Rattle.c_text.specs.Splice.{is_plain}
 use Rattle.c_text.specs.Piece.{in_string}
+use Rattle.c_text.specs.StandardHeader.{Header}
 use Rattle.c_text.proofs.Boundary.{pass-all, pass-append}
 use Rattle.c_text.proofs.PrintedLines.{bytes-in_string, bytes-plain}
 use Rattle.c_printed.specs.PrintedUnit.{end_if}
@@ -21,11 +22,12 @@ use Rattle.c_printed.specs.PrintableUnit.{IsBeside, Balanced, IsHeaderAt}
 use Rattle.c_printed.specs.Reread.{header_items, macro_tokens}
 use Rattle.c_printed.specs.Law.{ReadAsUnit}
 use Rattle.c_recut.proofs.PairLaw.{header-reads}
-use Rattle.gen_unit.specs.Header.{error_name, number, all_message_parts, header_parts, header_text}
-use Rattle.gen_unit.specs.HeaderMeaning.{Macro, constants_of, macros_of, header_name, including, DeclaresConstants}
+use Rattle.gen_unit.specs.Header.{error_name, number, all_message_parts, header_parts, header_text, header_name}
+use Rattle.gen_unit.specs.Macros.{Macro, constants_of, macros_of}
+use Rattle.gen_unit.specs.HeaderMeaning.{including, DeclaresConstants}
 use Rattle.gen_unit.specs.Small.{AreSmall}
 use Rattle.gen_unit.proofs.Names.{all_macros, guard-is_free, macros-are_own}
-use Rattle.gen_unit.proofs.NewMacros.{prints-header}
+use Rattle.gen_unit.proofs.NewMacros.{Prints, front, knowing, prints-header}
 
 -- ---- the name of the header
 
@@ -36,7 +38,7 @@ bytes-go_on : (bs : List ℕ) → AllByRecursion (λ b. is_identifier_byte b ≡
 bytes-go_on [] h = tt
 bytes-go_on (b ∷ bs) h = (byte-goes_on b h.0, bytes-go_on bs h.1)
 
-name-beside : (name : List ℕ) → IsIdentifier name → IsBeside (Some (header_name name)) (header_name name)
+pub name-beside : (name : List ℕ) → IsIdentifier name → IsBeside (Some (header_name name)) (header_name name)
 name-beside name h =
     let go = bytes-go_on name (identifier-bytes name h) in
     record {
@@ -60,21 +62,24 @@ constants-are [] ns = refl
 constants-are (m ∷ ms) [] = refl
 constants-are (m ∷ ms) (n ∷ ns) = ap (λ (rest : List Macro). constants_of m n ++ rest) (constants-are ms ns)
 
-macros-are : (ms : List Message) (t : SymbolTable) → map macro_tokens ((t.guard, None) ∷ (error_name, Some (number 22 10 false)) ∷ all_macros ms t.messages) ≡ macros_of ms t
+pub macros-are : (ms : List Message) (t : SymbolTable) → map macro_tokens ((t.guard, None) ∷ (error_name, Some (number 22 10 false)) ∷ all_macros ms t.messages) ≡ macros_of ms t
 unfolding error_name
 macros-are ms t = ap (λ (rest : List Macro). map macro_tokens ((t.guard, None) ∷ (error_name, Some (number 22 10 false)) ∷ []) ++ rest) (constants-are ms t.messages)
 
--- ---- the whole
+-- ---- a header
 
-pub header-may-be-printed : (ms : List Message) (t : SymbolTable) → AreSmall ms → HasNamesApart t → IsHeaderAt nothing_known (header_parts ms t)
-header-may-be-printed ms t small apart =
-    let x = prints-header ms t small (guard-is_free t apart.file) (macros-are_own ms t apart.file) in
+pub at-headers : (hs : List Header) (ms : List Message) (t : SymbolTable) → AreSmall ms → HasNamesApart t → Prints (knowing hs) (header_parts ms t) (front t.guard ++ all_macros ms t.messages)
+at-headers hs ms t small apart = prints-header hs ms t small (guard-is_free t apart.file) (macros-are_own ms t apart.file)
+
+pub header-may-be-printed : (hs : List Header) (ms : List Message) (t : SymbolTable) → AreSmall ms → HasNamesApart t → IsHeaderAt (knowing hs) (header_parts ms t)
+header-may-be-printed hs ms t small apart =
+    let x = at-headers hs ms t small apart in
     record { right = x.right; balanced = messages-balanced ms t.messages }
 
 pub header-declares : (name : List ℕ) (ms : List Message) (t : SymbolTable) → IsIdentifier name → AreSmall ms → HasNamesApart t → DeclaresConstants name ms t (header_text ms t)
 header-declares name ms t h small apart =
-    let x = prints-header ms t small (guard-is_free t apart.file) (macros-are_own ms t apart.file) in
+    let x = at-headers [] ms t small apart in
     let none : AllByRecursion ItemWithin (header_items (header_parts ms t) nothing_known) = subst (λ is. AllByRecursion ItemWithin is) (sym x.no_items) tt in
-    let reads = header-reads (header_name name) (header_parts ms t) (name-beside name h) (header-may-be-printed ms t small apart) none in
+    let reads = header-reads (header_name name) (header_parts ms t) (name-beside name h) (header-may-be-printed [] ms t small apart) none in
     subst (λ is. ReadAsUnit (header_name name) (header_text ms t) (including name) is (macros_of ms t)) x.no_items
     (subst (λ ls. ReadAsUnit (header_name name) (header_text ms t) (including name) (header_items (header_parts ms t) nothing_known) ls) (ap (map macro_tokens) x.macros ∙ macros-are ms t) reads)

@@ -9,12 +9,13 @@ use Rattle.can_model.specs.declared.database.Message.{Message}
 use Rattle.name_rules.specs.declared.table.SymbolTable.{SymbolTable}
 use Rattle.name_rules.specs.declared.table.MessageNames.{MessageNames}
 use Rattle.name_rules.specs.Distinct.{are_distinct}
+use Rattle.c_text.specs.StandardHeader.{Header}
 use Rattle.c_tree.specs.Symbol.{keyword_in}
 use Rattle.c_tree.specs.BareExpression.{Tree, bracket}
 use Rattle.c_printed.specs.PrintedUnit.{Part, comment, blank, include, define, if_not_defined, end_if}
 use Rattle.c_printed.specs.Printable.{IsFree, IsConstant, ten, sixteen}
 use Rattle.c_printed.specs.PrintableItem.{is_shown, IsShown}
-use Rattle.c_printed.specs.State.{Macro, State, nothing_known, header_named, listed, unless_known, with_macros, with_headers}
+use Rattle.c_printed.specs.State.{Macro, State, header_named, listed, unless_known, with_macros, with_headers}
 use Rattle.c_printed.specs.PrintableUnit.{IsBody, IsSame, IsKnown, AllRight, no_header}
 use Rattle.c_printed.specs.Reread.{header_items, header_macros}
 use Rattle.gen_unit.specs.Header.{opening_text, error_name, bool_header, size_header, integer_header, shown_byte, about, number, all_message_parts, include_parts, error_parts, header_parts}
@@ -27,7 +28,7 @@ shown-by : (b : ℕ) (t : Bool) → (nat_lt b 32 || nat_lt 126 b || b == 42 || b
 shown-by b true e = refl
 shown-by b false e = grind (arith, nat_tests)
 
-shown : (bs : List ℕ) → IsShown (map shown_byte bs)
+pub shown : (bs : List ℕ) → IsShown (map shown_byte bs)
 shown [] = tt
 shown (b ∷ bs) = (shown-by b _ refl, shown bs)
 
@@ -127,7 +128,7 @@ error-free : IsFree error_name
 unfolding error_name keyword_in
 error-free = ((refl, (refl, (refl, (refl, (refl, (refl, tt)))))), refl)
 
-abbrev front : List ℕ → List Macro
+abbrev pub front : List ℕ → List Macro
 front g = (g, None) ∷ (error_name, Some (number 22 10 false)) ∷ []
 
 none-in-front : (g : List ℕ) (ds : List Macro) → list_any (bytes_eq g) (names ds) ≡ false → AllByRecursion (λ (d : Macro). bytes_eq error_name d.0 ≡ false) ds → AreNone (front g) ds
@@ -136,15 +137,19 @@ none-in-front g (d ∷ ds) h k =
     let p = either_false (bytes_eq g d.0) (list_any (bytes_eq g) (names ds)) h in
     ((λ i. cond (p.0 i) (Some None) (cond (k.0 i) (Some (Some (number 22 10 false))) None)), none-in-front g ds p.1 k.1)
 
-pub prints-header : (ms : List Message) (t : SymbolTable) → AreSmall ms → GuardIsFree t.guard → AreOwn t.guard (all_macros ms t.messages)
-    → Prints nothing_known (header_parts ms t) (front t.guard ++ all_macros ms t.messages)
+-- behind these headers, and no macro
+abbrev pub knowing : List Header → State
+knowing hs = record { macros = []; headers = hs }
+
+pub prints-header : (hs : List Header) (ms : List Message) (t : SymbolTable) → AreSmall ms → GuardIsFree t.guard → AreOwn t.guard (all_macros ms t.messages)
+    → Prints (knowing hs) (header_parts ms t) (front t.guard ++ all_macros ms t.messages)
 unfolding bool_header size_header integer_header
-prints-header ms t small g own =
+prints-header hs ms t small g own =
     let guard = t.guard in
     let ds = all_macros ms t.messages in
     let no_error : look_up error_name ((guard, None) ∷ []) ≡ None = ap (λ b. cond b (Some None) None) g.not_error in
     let messages = all_message_parts ms t.messages ++ end_if ∷ [] in
-    let s1 = with_macros nothing_known ((guard, None) ∷ []) in
+    let s1 = with_macros (knowing hs) ((guard, None) ∷ []) in
     let s2 = with_headers (with_headers (with_headers s1 (listed (header_named bool_header))) (listed (header_named size_header))) (listed (header_named integer_header)) in
     let s3 = with_macros s2 ((error_name, Some (number 22 10 false)) ∷ []) in
     let body = prints-messages s3 ms t.messages small own.free own.distinct (none-in-front guard ds own.no_guard own.no_error) in
@@ -156,7 +161,7 @@ prints-header ms t small g own =
     prints-include s1 bool_header _ _ tt
     (prints-include _ size_header _ _ tt
     (prints-include _ integer_header _ _ tt (prints-blank s2 (error_parts ++ messages) _ error))) in
-    prints-comment nothing_known (map shown_byte opening_text) _ _ (shown opening_text)
-    (prints-blank nothing_known _ _
-    (prints-ifndef nothing_known guard _ _ g.free refl
-    (prints-define nothing_known guard None (blank ∷ (include_parts ++ (error_parts ++ messages))) _ g.free tt refl (prints-blank s1 _ _ includes))))
+    prints-comment (knowing hs) (map shown_byte opening_text) _ _ (shown opening_text)
+    (prints-blank (knowing hs) _ _
+    (prints-ifndef (knowing hs) guard _ _ g.free refl
+    (prints-define (knowing hs) guard None (blank ∷ (include_parts ++ (error_parts ++ messages))) _ g.free tt refl (prints-blank s1 _ _ includes))))

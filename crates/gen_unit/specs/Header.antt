@@ -7,7 +7,7 @@ use Rattle.name_rules.specs.declared.table.MessageNames.{MessageNames}
 use Rattle.c_tree.specs.BareExpression.{Tree, constant, bracket}
 use Rattle.c_printed.specs.PrintedUnit.{Part, comment, blank, include, define, if_not_defined, end_if, unit_text}
 
--- the words that stand in every header
+-- the words that stand in every header and source
 unfoldable pub opening_text : List ℕ
 opening_text = codes "Generated from a CAN database. Do not edit."
 
@@ -22,6 +22,10 @@ size_header = codes "stddef.h"
 
 unfoldable pub integer_header : List ℕ
 integer_header = codes "stdint.h"
+
+-- the name of the header of a database
+abbrev pub header_name : List ℕ → List ℕ
+header_name name = name ++ codes ".h"
 
 -- ---- comments
 

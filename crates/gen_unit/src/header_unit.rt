@@ -2,11 +2,11 @@
 ghost use Rattle.std.specs.Prelude.{◌≡◌, ◌++◌, ◌∷◌, [], IfOk, OnOk};
 ghost use Rattle.c_printer.specs.BarePart.{bare_parts};
 ghost use Rattle.gen_unit.specs.Header as header;
-ghost use Rattle.gen_unit.specs.Header.{about, remark, message_parts, all_message_parts, opening_text, error_name, opening_parts, include_parts, error_parts, header_parts};
+ghost use Rattle.gen_unit.specs.Header.{about, message_parts, all_message_parts, error_name, opening_parts, include_parts, error_parts, header_parts};
 
 use crate::parts::{
     number, put_blank, put_comment, put_constant, put_define, put_end_if, put_if_not_defined,
-    put_include,
+    put_include, put_opening_comment,
 };
 use c_printer::{Part, PrintUnit};
 use can_model::Message;
@@ -29,13 +29,6 @@ pub fn header_unit(
     put_messages(alloc, &mut parts, messages, names.messages.items())?;
     put_end_if(&mut parts)?;
     Ok(PrintUnit { parts })
-}
-
-#[tactic(auto, unfolding(crate::specs::Header::opening_text))]
-fn put_opening_comment(alloc: Global, parts: &mut List<Part>) -> Result<(), Memory>
-    ensures { OnOk result (bare_parts parts.new ≡ bare_parts parts.old ++ remark opening_text ∷ []) }
-{
-    put_comment(alloc, parts, b"Generated from a CAN database. Do not edit.")
 }
 
 fn put_opening(alloc: Global, parts: &mut List<Part>, guard: &[u8]) -> Result<(), Memory>

@@ -4,7 +4,7 @@ ghost use Rattle.c_tree.specs.BareExpression.{bare_expression, bracket};
 ghost use Rattle.c_tree.specs.BareStatement.{bare_option};
 ghost use Rattle.c_printed.specs.PrintedUnit as spec;
 ghost use Rattle.c_printer.specs.BarePart.{bare_part, bare_parts};
-ghost use Rattle.gen_unit.specs.Header.{shown_byte, remark, constant_macro};
+ghost use Rattle.gen_unit.specs.Header.{opening_text, shown_byte, remark, constant_macro};
 ghost use Rattle.gen_unit.specs.Header as header;
 
 use c_printer::Part;
@@ -80,6 +80,22 @@ pub fn put_blank(parts: &mut List<Part>) -> Result<(), Memory>
     ensures { OnOk result (bare_parts parts.new ≡ bare_parts parts.old ++ spec.blank ∷ []) }
 {
     put(parts, Part::Blank)
+}
+
+/// Puts the comment that every text begins with.
+#[tactic(auto, unfolding(crate::specs::Header::opening_text))]
+pub fn put_opening_comment(alloc: Global, parts: &mut List<Part>) -> Result<(), Memory>
+    ensures { OnOk result (bare_parts parts.new ≡ bare_parts parts.old ++ remark opening_text ∷ []) }
+{
+    put_comment(alloc, parts, b"Generated from a CAN database. Do not edit.")
+}
+
+/// Puts the include of the header beside the source.
+pub fn put_include_beside(alloc: Global, parts: &mut List<Part>, name: &[u8]) -> Result<(), Memory>
+    ensures { OnOk result (bare_parts parts.new ≡ bare_parts parts.old ++ spec.include_beside name.now ∷ []) }
+{
+    let name = Text::copy_of(alloc, name)?;
+    put(parts, Part::Include { name, quoted: true })
 }
 
 /// Puts the include of a standard header.
