@@ -1,4 +1,4 @@
--- The header declares its constants: its parts may be printed, and what is printed reads back.
+-- The header declares its messages: its parts may be printed, and what is printed reads back.
 use Rattle.std.proofs.Common.{◌≡◌, ℕ, true, false, List, [], ◌∷◌, ◌++◌, map, Some, None, refl, sym, ap, subst, ◌∙◌, arith, length-append}
 use Rattle.std.specs.Prelude.{codes}
 use Rattle.std.specs.List.{AllByRecursion, flat_map, zip}
@@ -15,6 +15,7 @@ use Rattle.c_text.specs.Piece.{in_string}
 use Rattle.c_text.specs.StandardHeader.{Header}
 use Rattle.c_text.proofs.Boundary.{pass-all, pass-append}
 use Rattle.c_text.proofs.PrintedLines.{bytes-in_string, bytes-plain}
+use Rattle.c_tree.specs.BareUnit.{BareItem}
 use Rattle.c_printed.specs.PrintedUnit.{end_if}
 use Rattle.c_printed.specs.Within.{ItemWithin}
 use Rattle.c_printed.specs.State.{nothing_known}
@@ -24,10 +25,14 @@ use Rattle.c_printed.specs.Law.{ReadAsUnit}
 use Rattle.c_recut.proofs.PairLaw.{header-reads}
 use Rattle.gen_unit.specs.Header.{error_name, number, all_message_parts, header_parts, header_text, header_name}
 use Rattle.gen_unit.specs.Macros.{Macro, constants_of, macros_of}
-use Rattle.gen_unit.specs.HeaderMeaning.{including, DeclaresConstants}
+use Rattle.gen_unit.specs.HeaderMeaning.{including, DeclaresMessages}
+use Rattle.gen_unit.specs.Items.{message_items, items_of}
 use Rattle.gen_unit.specs.Small.{AreSmall}
+use Rattle.gen_unit.proofs.Letters.{AllHaveLetters}
+use Rattle.gen_unit.proofs.OwnNames.{GiveTypes, three-give}
+use Rattle.gen_unit.proofs.MessageItems.{own-names}
 use Rattle.gen_unit.proofs.Names.{all_macros, guard-is_free, macros-are_own}
-use Rattle.gen_unit.proofs.NewMacros.{Prints, front, knowing, prints-header}
+use Rattle.gen_unit.proofs.NewMacros.{Prints, front, knowing, all_items, with_includes, prints-header}
 
 -- ---- the name of the header
 
@@ -66,20 +71,45 @@ pub macros-are : (ms : List Message) (t : SymbolTable) → map macro_tokens ((t.
 unfolding error_name
 macros-are ms t = ap (λ (rest : List Macro). map macro_tokens ((t.guard, None) ∷ (error_name, Some (number 22 10 false)) ∷ []) ++ rest) (constants-are ms t.messages)
 
+-- ---- the items
+
+all-items-are : (ms : List Message) (ns : List MessageNames) → all_items ms ns ≡ flat_map (λ p. message_items p.0 p.1) (zip ms ns)
+all-items-are [] ns = refl
+all-items-are (m ∷ ms) [] = refl
+all-items-are (m ∷ ms) (n ∷ ns) = ap (λ (rest : List BareItem). message_items m n ++ rest) (all-items-are ms ns)
+
+pub items-are-within : (ps : List (Message × MessageNames)) → AllByRecursion ItemWithin (flat_map (λ p. message_items p.0 p.1) ps)
+items-are-within [] = tt
+items-are-within (p ∷ ps) = (tt, (tt, items-are-within ps))
+
 -- ---- a header
 
-pub at-headers : (hs : List Header) (ms : List Message) (t : SymbolTable) → AreSmall ms → HasNamesApart t → Prints (knowing hs) (header_parts ms t) (front t.guard ++ all_macros ms t.messages)
-at-headers hs ms t small apart = prints-header hs ms t small (guard-is_free t apart.file) (macros-are_own ms t apart.file)
+-- the names of a pair are its own
+pub record HasItsNames (t : SymbolTable) : Type 0 where
+  pub apart : HasNamesApart t
+  pub letters : AllHaveLetters t
 
-pub header-may-be-printed : (hs : List Header) (ms : List Message) (t : SymbolTable) → AreSmall ms → HasNamesApart t → IsHeaderAt (knowing hs) (header_parts ms t)
-header-may-be-printed hs ms t small apart =
-    let x = at-headers hs ms t small apart in
+at-all : (hs : List Header) (ms : List Message) (t : SymbolTable) → GiveTypes (with_includes hs) → AreSmall ms → HasItsNames t
+    → Prints (knowing hs) (header_parts ms t) (all_items ms t.messages) (front t.guard ++ all_macros ms t.messages)
+at-all hs ms t types small names =
+    let file = names.apart.file in
+    let own = own-names t.messages file.words.1 file.free.1 names.apart.fields names.letters.messages in
+    prints-header hs ms t types names.letters own small (guard-is_free t file) (macros-are_own ms t file)
+
+pub at-headers : (hs : List Header) (ms : List Message) (t : SymbolTable) → GiveTypes (with_includes hs) → AreSmall ms → HasItsNames t
+    → Prints (knowing hs) (header_parts ms t) (items_of ms t) (front t.guard ++ all_macros ms t.messages)
+at-headers hs ms t types small names =
+    subst (λ (is : List BareItem). Prints (knowing hs) (header_parts ms t) is (front t.guard ++ all_macros ms t.messages)) (all-items-are ms t.messages) (at-all hs ms t types small names)
+
+pub header-may-be-printed : (hs : List Header) (ms : List Message) (t : SymbolTable) → GiveTypes (with_includes hs) → AreSmall ms → HasItsNames t → IsHeaderAt (knowing hs) (header_parts ms t)
+header-may-be-printed hs ms t types small names =
+    let x = at-headers hs ms t types small names in
     record { right = x.right; balanced = messages-balanced ms t.messages }
 
-pub header-declares : (name : List ℕ) (ms : List Message) (t : SymbolTable) → IsIdentifier name → AreSmall ms → HasNamesApart t → DeclaresConstants name ms t (header_text ms t)
-header-declares name ms t h small apart =
-    let x = at-headers [] ms t small apart in
-    let none : AllByRecursion ItemWithin (header_items (header_parts ms t) nothing_known) = subst (λ is. AllByRecursion ItemWithin is) (sym x.no_items) tt in
-    let reads = header-reads (header_name name) (header_parts ms t) (name-beside name h) (header-may-be-printed [] ms t small apart) none in
-    subst (λ is. ReadAsUnit (header_name name) (header_text ms t) (including name) is (macros_of ms t)) x.no_items
+pub header-declares : (name : List ℕ) (ms : List Message) (t : SymbolTable) → IsIdentifier name → AreSmall ms → HasItsNames t → DeclaresMessages name ms t (header_text ms t)
+header-declares name ms t h small names =
+    let x = at-headers [] ms t three-give small names in
+    let within : AllByRecursion ItemWithin (header_items (header_parts ms t) nothing_known) = subst (λ is. AllByRecursion ItemWithin is) (sym x.items_are) (items-are-within (zip ms t.messages)) in
+    let reads = header-reads (header_name name) (header_parts ms t) (name-beside name h) (header-may-be-printed [] ms t three-give small names) within in
+    subst (λ is. ReadAsUnit (header_name name) (header_text ms t) (including name) is (macros_of ms t)) x.items_are
     (subst (λ ls. ReadAsUnit (header_name name) (header_text ms t) (including name) (header_items (header_parts ms t) nothing_known) ls) (ap (map macro_tokens) x.macros ∙ macros-are ms t) reads)

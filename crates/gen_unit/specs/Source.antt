@@ -1,7 +1,8 @@
 -- The source of a database, as a list of parts.
 use Rattle.std.specs.Prelude.{ℕ, List, [], ◌∷◌, codes}
 use Rattle.c_printed.specs.PrintedUnit.{Part, blank, include, include_beside, unit_text}
-use Rattle.gen_unit.specs.Header.{opening_text, remark, header_name}
+use Rattle.gen_unit.specs.Comments.{opening_text, remark}
+use Rattle.gen_unit.specs.Header.{header_name}
 
 -- the header that gives `memset`
 unfoldable pub string_header : List ℕ

@@ -8,6 +8,7 @@ use Rattle.c_tree.specs.declared.item.Unit.{Unit as Whole}
 use Rattle.c_tree.specs.BareStatement.{Actions}
 use Rattle.c_tree.specs.BareUnit.{BareField, BareHead, BareItem, struct, function, bare_unit}
 use Rattle.gen_unit.specs.Macros.{macros_of}
+use Rattle.gen_unit.specs.Items.{structs_of, functions_of}
 
 -- ---- the items of a unit, by what they are
 
@@ -33,9 +34,9 @@ definitions_in (function head (Some body) ∷ items) = (head, body) ∷ definiti
 
 -- ---- those of a database
 
--- its macros are these and no other ones, and it has no structs and no functions yet
+-- its macros, its structs and the functions that it declares are these and no other ones; none is defined yet
 pub record HasSurface (messages : List Message) (names : SymbolTable) (left : Preprocessed) (unit : Whole) : Type 0 where
   pub macros : map macro_kinds left.macros ≡ macros_of messages names
-  pub structs : structs_in (bare_unit unit) ≡ []
-  pub prototypes : prototypes_in (bare_unit unit) ≡ []
+  pub structs : structs_in (bare_unit unit) ≡ structs_of messages names
+  pub prototypes : prototypes_in (bare_unit unit) ≡ functions_of messages names
   pub definitions : definitions_in (bare_unit unit) ≡ []

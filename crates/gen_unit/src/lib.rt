@@ -10,6 +10,8 @@
 mod header_unit;
 mod parts;
 mod printing;
+mod prototypes;
 mod source_unit;
+mod structs;
 
 pub use printing::{Pair, generate};
