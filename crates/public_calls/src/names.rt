@@ -161,9 +161,12 @@ fn a_database_has_its_names(rt: HostRuntime) -> Result<(), Fail> {
 }
 
 #[test]
-fn a_message_has_three_macros(rt: HostRuntime) -> Result<(), Fail> {
+fn a_message_has_its_declarations(rt: HostRuntime) -> Result<(), Fail> {
     let alloc = rt.alloc();
-    let checked = read_dbc(alloc, b"BO_ 2047 ABC: 64 X CM_ BO_ 2047 \"A*B?\\c */\";")?;
+    let checked = read_dbc(
+        alloc,
+        b"BO_ 2047 ABC: 64 X SG_ D : 0|64@1- (1,0) [0|0] \"*/\" X CM_ BO_ 2047 \"A*B?\\c */\";",
+    )?;
     let name = identifier(alloc, b"x")?;
     let names = symbols(alloc, checked.database(), &name, false)?;
     let pair = generate(alloc, name.bytes(), checked.database(), &names)?;
@@ -171,6 +174,13 @@ fn a_message_has_three_macros(rt: HostRuntime) -> Result<(), Fail> {
 #define X_ABC_FRAME_ID (0x7ffu)
 #define X_ABC_LENGTH (64u)
 #define X_ABC_IS_EXTENDED (0)
+
+struct x_abc_t {
+    /* D [./] */
+    int64_t d;
+};
+
+int x_abc_pack(uint8_t *dst_p, const struct x_abc_t *src_p, size_t size);
 
 #endif
 ";
