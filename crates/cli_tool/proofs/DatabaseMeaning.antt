@@ -1,4 +1,4 @@
--- A valid database has small numbers, and its header declares its constants.
+-- A valid database has small numbers, and its header declares its messages.
 use Rattle.std.proofs.Common.{◌≡◌, ℕ, suc, ◌≤◌, Bool, true, false, List, [], ◌∷◌, take, Ok, Err, Result, refl, subst, arith}
 use Rattle.std.specs.Prelude.{nat_lt, slice_get, MatchBool, Some}
 use Rattle.std.proofs.lemmas.Bool.Decides.{nat_tests}
@@ -12,12 +12,12 @@ use Rattle.name_rules.specs.declared.table.SymbolTable.{SymbolTable}
 use Rattle.name_rules.specs.IsIdentifier.{IsIdentifier}
 use Rattle.name_rules.specs.Symbols.{AreSymbols}
 use Rattle.name_rules.proofs.Shape.{identifier_of-IsIdentifier}
-use Rattle.name_rules.proofs.TableApart.{symbols-apart}
 use Rattle.db_text.specs.DatabaseOfText.{DatabaseRefusal, in_text, Spells}
 use Rattle.gen_unit.specs.Header.{header_text}
-use Rattle.gen_unit.specs.HeaderMeaning.{DeclaresConstants}
+use Rattle.gen_unit.specs.HeaderMeaning.{DeclaresMessages}
 use Rattle.gen_unit.specs.Small.{IsSmallMessage, AreSmall}
 use Rattle.gen_unit.proofs.Meaning.{header-declares}
+use Rattle.gen_unit.proofs.PairMeaning.{its-names}
 use Rattle.cli_tool.specs.FileName.{base_name, stem_of, database_name, is_sym}
 use Rattle.cli_tool.specs.DatabaseInFile.{not_yet, GivesDatabase}
 
@@ -66,6 +66,6 @@ valid_in file text db = by_name (is_sym file) where
   by_name false h = h.1
 
 pub database_declares : (file text : List ℕ) (db : Database) (names : SymbolTable) → GivesDatabase file text (Ok db) → AreSymbols db (database_name file) false names
-    → DeclaresConstants (database_name file) db.messages names (header_text db.messages names)
+    → DeclaresMessages (database_name file) db.messages names (header_text db.messages names)
 database_declares file text db names given are =
-    header-declares (database_name file) db.messages names (named-identifier file) (small_messages db (valid_in file text db given)) (symbols-apart db (database_name file) false names (named-identifier file) are)
+    header-declares (database_name file) db.messages names (named-identifier file) (small_messages db (valid_in file text db given)) (its-names db (database_name file) false names (named-identifier file) are)

@@ -6,7 +6,7 @@ use Rattle.can_model.specs.declared.database.Database.{Database}
 use Rattle.name_rules.specs.declared.table.SymbolTable.{SymbolTable}
 use Rattle.name_rules.specs.Symbols.{AreSymbols}
 use Rattle.gen_unit.specs.Header.{header_text}
-use Rattle.gen_unit.specs.HeaderMeaning.{DeclaresConstants}
+use Rattle.gen_unit.specs.HeaderMeaning.{DeclaresMessages}
 use Rattle.cli_tool.specs.FileName.{database_name, header_path}
 use Rattle.cli_tool.specs.DatabaseInFile.{GivesDatabase}
 use Rattle.cli_tool.specs.declared.status.Status.{Status}
@@ -19,7 +19,7 @@ pub record IsHeaderOf (file text header : List ℕ) : Type 0 where
   pub names : SymbolTable
   pub names_are : AreSymbols db (database_name file) false names
   pub bytes : header ≡ header_text db.messages names
-  pub meaning : DeclaresConstants (database_name file) db.messages names header
+  pub meaning : DeclaresMessages (database_name file) db.messages names header
 
 -- where the contents are told, the file's text has a header of which this is so, with the contents before and after
 abbrev pub OfHeader : List ℕ → FilesSeen → FilesSeen → (List ℕ → Folder → Folder → Type 0) → Type 0

@@ -10,7 +10,7 @@ use crate::naming::{header_file, name};
 use crate::reporting::written;
 use can_model::Database;
 use cg_out::Memory;
-use gen_unit::header;
+use gen_unit::generate;
 use name_rules::symbols;
 use std::alloc::Global;
 
@@ -30,9 +30,10 @@ fn header_written<'a>(alloc: Global, file: &[u8], database: &Database) -> Result
 {
     let name = name(alloc, file)?;
     let names = symbols(alloc, database, &name, false)?;
+    let pair = generate(alloc, name.bytes(), database, &names)?;
     let output = Output {
         file: header_file(alloc, file)?,
-        bytes: header(alloc, name.bytes(), database, &names)?,
+        bytes: pair.header,
     };
     let mut outputs = Vec::new(alloc);
     outputs.push(output)?;

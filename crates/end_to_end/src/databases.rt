@@ -56,8 +56,7 @@ CM_ "A bus.";
 const EXAMPLE_LONG_NAME: &str = r#"BA_ "SystemMessageLongSymbol" BO_ 496 "LongName";
 "#;
 
-/// The file's name without its ending, the text in pieces, and the comment and the macros of its
-/// messages.
+/// The file's name without its ending, the text in pieces, and what the header has of its messages.
 const HEADERS: &[(&str, &[&str], &str)] = &[
     (
         "truck",
@@ -67,6 +66,13 @@ const HEADERS: &[(&str, &[&str], &str)] = &[
 #define TRUCK_EEC1_FRAME_ID (0xcf004feu)
 #define TRUCK_EEC1_LENGTH (8u)
 #define TRUCK_EEC1_IS_EXTENDED (1)
+
+struct truck_eec1_t {
+    /* EngineSpeed [rpm] Actual engine speed. */
+    uint16_t engine_speed;
+};
+
+int truck_eec1_pack(uint8_t *dst_p, const struct truck_eec1_t *src_p, size_t size);
 ",
     ),
     (
@@ -78,15 +84,33 @@ const HEADERS: &[(&str, &[&str], &str)] = &[
 #define EDGE_AB_LENGTH (1u)
 #define EDGE_AB_IS_EXTENDED (0)
 
+struct edge_ab_t {
+    uint8_t dummy;
+};
+
+int edge_ab_pack(uint8_t *dst_p, const struct edge_ab_t *src_p, size_t size);
+
 /* Message Ab */
 #define EDGE_AB_FRAME_ID_2 (0x2u)
 #define EDGE_AB_LENGTH_2 (2u)
 #define EDGE_AB_IS_EXTENDED_2 (0)
 
+struct edge_ab_t_2 {
+    uint8_t dummy;
+};
+
+int edge_ab_pack_2(uint8_t *dst_p, const struct edge_ab_t_2 *src_p, size_t size);
+
 /* Message aB */
 #define EDGE_A_B_FRAME_ID (0x3u)
 #define EDGE_A_B_LENGTH (3u)
 #define EDGE_A_B_IS_EXTENDED (0)
+
+struct edge_a_b_t {
+    uint8_t dummy;
+};
+
+int edge_a_b_pack(uint8_t *dst_p, const struct edge_a_b_t *src_p, size_t size);
 ",
     ),
     (
@@ -97,6 +121,17 @@ const HEADERS: &[(&str, &[&str], &str)] = &[
 #define EXAMPLE_EXAMPLE_FRAME_ID (0x1f0u)
 #define EXAMPLE_EXAMPLE_LENGTH (8u)
 #define EXAMPLE_EXAMPLE_IS_EXTENDED (0)
+
+struct example_example_t {
+    /* Enable [-] */
+    uint8_t enable;
+    /* AverageRadius [m] */
+    uint8_t average_radius;
+    /* Temperature [degK] */
+    int16_t temperature;
+};
+
+int example_example_pack(uint8_t *dst_p, const struct example_example_t *src_p, size_t size);
 ",
     ),
     (
@@ -107,6 +142,17 @@ const HEADERS: &[(&str, &[&str], &str)] = &[
 #define EXAMPLE_EXAMPLE_FRAME_ID (0x1f0u)
 #define EXAMPLE_EXAMPLE_LENGTH (8u)
 #define EXAMPLE_EXAMPLE_IS_EXTENDED (0)
+
+struct example_example_t {
+    /* Enable [-] */
+    uint8_t enable;
+    /* AverageRadius [m] */
+    uint8_t average_radius;
+    /* Temperature [degK] */
+    int16_t temperature;
+};
+
+int example_example_pack(uint8_t *dst_p, const struct example_example_t *src_p, size_t size);
 ",
     ),
     (
@@ -117,6 +163,17 @@ const HEADERS: &[(&str, &[&str], &str)] = &[
 #define EXAMPLE_LONG_NAME_FRAME_ID (0x1f0u)
 #define EXAMPLE_LONG_NAME_LENGTH (8u)
 #define EXAMPLE_LONG_NAME_IS_EXTENDED (0)
+
+struct example_long_name_t {
+    /* Enable [-] Whether it is sent. */
+    uint8_t enable;
+    /* AverageRadius [m] */
+    uint8_t average_radius;
+    /* Temperature [degK] */
+    int16_t temperature;
+};
+
+int example_long_name_pack(uint8_t *dst_p, const struct example_long_name_t *src_p, size_t size);
 ",
     ),
 ];
@@ -551,9 +608,9 @@ fn check_texts(rt: &impl Abort, alloc: Global, texts: Texts) -> Result<(), Fail>
 }
 
 #[test]
-fn messages_have_their_macros(rt: HostRuntime) -> Result<(), Fail> {
+fn messages_have_their_declarations(rt: HostRuntime) -> Result<(), Fail> {
     let alloc = rt.alloc();
-    for &(name, pieces, macros) in HEADERS {
+    for &(name, pieces, messages) in HEADERS {
         let words = format!(in alloc; "generate_c_source {name}.dbc")?;
         let file = format!(in alloc; "{name}.dbc")?;
         let report = format!(in alloc; "{name}.h\n")?;
@@ -572,7 +629,7 @@ fn messages_have_their_macros(rt: HostRuntime) -> Result<(), Fail> {
 #ifndef EINVAL
 #define EINVAL 22
 #endif
-{macros}
+{messages}
 #endif
 "
         )?;

@@ -48,7 +48,8 @@ fn a_header_leaves_its_macros(rt: HostRuntime) -> Result<(), Fail> {
     let header = read(alloc, CAN_HEADER, true)?;
     let source = read(alloc, b"#include \"can.h\"", false)?;
     let left = expand(alloc, &header, b"can.h", &source)?;
-    assert_eq!(rt; left.tokens.items().len(), 0);
+    // A struct of one field has 8 tokens, and a prototype 17.
+    assert_eq!(rt; left.tokens.items().len(), 2 * (8 + 17));
     let macros = [
         ("CAN_H", Body::Empty),
         ("EINVAL", Body::Alone(22)),

@@ -25,10 +25,22 @@ pub(super) const CAN_HEADER: &[u8] = b"/* Generated from a CAN database. Do not 
 #define CAN_PING_LENGTH (2u)
 #define CAN_PING_IS_EXTENDED (0)
 
+struct can_ping_t {
+    uint8_t dummy;
+};
+
+int can_ping_pack(uint8_t *dst_p, const struct can_ping_t *src_p, size_t size);
+
 /* Message Pong */
 #define CAN_PONG_FRAME_ID (0x1u)
 #define CAN_PONG_LENGTH (0u)
 #define CAN_PONG_IS_EXTENDED (1)
+
+struct can_pong_t {
+    uint8_t dummy;
+};
+
+int can_pong_pack(uint8_t *dst_p, const struct can_pong_t *src_p, size_t size);
 
 #endif
 ";
@@ -66,6 +78,12 @@ const SHOWN_HEADER: &[u8] = b"/* Generated from a CAN database. Do not edit. */
 #define MY_BUS_V2_ENGINE_DATA1_FRAME_ID (0x1fffffffu)
 #define MY_BUS_V2_ENGINE_DATA1_LENGTH (8u)
 #define MY_BUS_V2_ENGINE_DATA1_IS_EXTENDED (1)
+
+struct my_bus_v2_engine_data1_t {
+    uint8_t dummy;
+};
+
+int my_bus_v2_engine_data1_pack(uint8_t *dst_p, const struct my_bus_v2_engine_data1_t *src_p, size_t size);
 
 #endif
 ";

@@ -1,4 +1,4 @@
--- The header declares its constants: its parts may be printed, and what is printed reads back.
+-- The header declares its messages: its parts may be printed, and what is printed reads back.
 use Rattle.std.proofs.Common.{◌≡◌, ℕ, true, false, List, [], ◌∷◌, ◌++◌, map, Some, None, refl, sym, ap, subst, ◌∙◌, arith, length-append}
 use Rattle.std.specs.Prelude.{codes}
 use Rattle.std.specs.List.{AllByRecursion, flat_map, zip}
@@ -12,8 +12,10 @@ use Rattle.name_rules.proofs.NamesApart.{identifier-bytes}
 use Rattle.c_text.specs.Characters.{goes_on, Pass}
 use Rattle.c_text.specs.Splice.{is_plain}
 use Rattle.c_text.specs.Piece.{in_string}
+use Rattle.c_text.specs.StandardHeader.{Header}
 use Rattle.c_text.proofs.Boundary.{pass-all, pass-append}
 use Rattle.c_text.proofs.PrintedLines.{bytes-in_string, bytes-plain}
+use Rattle.c_tree.specs.BareUnit.{BareItem}
 use Rattle.c_printed.specs.PrintedUnit.{end_if}
 use Rattle.c_printed.specs.Within.{ItemWithin}
 use Rattle.c_printed.specs.State.{nothing_known}
@@ -21,11 +23,16 @@ use Rattle.c_printed.specs.PrintableUnit.{IsBeside, Balanced, IsHeaderAt}
 use Rattle.c_printed.specs.Reread.{header_items, macro_tokens}
 use Rattle.c_printed.specs.Law.{ReadAsUnit}
 use Rattle.c_recut.proofs.PairLaw.{header-reads}
-use Rattle.gen_unit.specs.Header.{error_name, number, all_message_parts, header_parts, header_text}
-use Rattle.gen_unit.specs.HeaderMeaning.{Macro, constants_of, macros_of, header_name, including, DeclaresConstants}
+use Rattle.gen_unit.specs.Header.{error_name, number, all_message_parts, header_parts, header_text, header_name}
+use Rattle.gen_unit.specs.Macros.{Macro, constants_of, macros_of}
+use Rattle.gen_unit.specs.HeaderMeaning.{including, DeclaresMessages}
+use Rattle.gen_unit.specs.Items.{message_items, items_of}
 use Rattle.gen_unit.specs.Small.{AreSmall}
+use Rattle.gen_unit.proofs.Letters.{AllHaveLetters}
+use Rattle.gen_unit.proofs.OwnNames.{GiveTypes, three-give}
+use Rattle.gen_unit.proofs.MessageItems.{own-names}
 use Rattle.gen_unit.proofs.Names.{all_macros, guard-is_free, macros-are_own}
-use Rattle.gen_unit.proofs.NewMacros.{prints-header}
+use Rattle.gen_unit.proofs.NewMacros.{Prints, front, knowing, all_items, with_includes, prints-header}
 
 -- ---- the name of the header
 
@@ -36,7 +43,7 @@ bytes-go_on : (bs : List ℕ) → AllByRecursion (λ b. is_identifier_byte b ≡
 bytes-go_on [] h = tt
 bytes-go_on (b ∷ bs) h = (byte-goes_on b h.0, bytes-go_on bs h.1)
 
-name-beside : (name : List ℕ) → IsIdentifier name → IsBeside (Some (header_name name)) (header_name name)
+pub name-beside : (name : List ℕ) → IsIdentifier name → IsBeside (Some (header_name name)) (header_name name)
 name-beside name h =
     let go = bytes-go_on name (identifier-bytes name h) in
     record {
@@ -60,21 +67,49 @@ constants-are [] ns = refl
 constants-are (m ∷ ms) [] = refl
 constants-are (m ∷ ms) (n ∷ ns) = ap (λ (rest : List Macro). constants_of m n ++ rest) (constants-are ms ns)
 
-macros-are : (ms : List Message) (t : SymbolTable) → map macro_tokens ((t.guard, None) ∷ (error_name, Some (number 22 10 false)) ∷ all_macros ms t.messages) ≡ macros_of ms t
+pub macros-are : (ms : List Message) (t : SymbolTable) → map macro_tokens ((t.guard, None) ∷ (error_name, Some (number 22 10 false)) ∷ all_macros ms t.messages) ≡ macros_of ms t
 unfolding error_name
 macros-are ms t = ap (λ (rest : List Macro). map macro_tokens ((t.guard, None) ∷ (error_name, Some (number 22 10 false)) ∷ []) ++ rest) (constants-are ms t.messages)
 
--- ---- the whole
+-- ---- the items
 
-pub header-may-be-printed : (ms : List Message) (t : SymbolTable) → AreSmall ms → HasNamesApart t → IsHeaderAt nothing_known (header_parts ms t)
-header-may-be-printed ms t small apart =
-    let x = prints-header ms t small (guard-is_free t apart.file) (macros-are_own ms t apart.file) in
+all-items-are : (ms : List Message) (ns : List MessageNames) → all_items ms ns ≡ flat_map (λ p. message_items p.0 p.1) (zip ms ns)
+all-items-are [] ns = refl
+all-items-are (m ∷ ms) [] = refl
+all-items-are (m ∷ ms) (n ∷ ns) = ap (λ (rest : List BareItem). message_items m n ++ rest) (all-items-are ms ns)
+
+pub items-are-within : (ps : List (Message × MessageNames)) → AllByRecursion ItemWithin (flat_map (λ p. message_items p.0 p.1) ps)
+items-are-within [] = tt
+items-are-within (p ∷ ps) = (tt, (tt, items-are-within ps))
+
+-- ---- a header
+
+-- the names of a pair are its own
+pub record HasItsNames (t : SymbolTable) : Type 0 where
+  pub apart : HasNamesApart t
+  pub letters : AllHaveLetters t
+
+at-all : (hs : List Header) (ms : List Message) (t : SymbolTable) → GiveTypes (with_includes hs) → AreSmall ms → HasItsNames t
+    → Prints (knowing hs) (header_parts ms t) (all_items ms t.messages) (front t.guard ++ all_macros ms t.messages)
+at-all hs ms t types small names =
+    let file = names.apart.file in
+    let own = own-names t.messages file.words.1 file.free.1 names.apart.fields names.letters.messages in
+    prints-header hs ms t types names.letters own small (guard-is_free t file) (macros-are_own ms t file)
+
+pub at-headers : (hs : List Header) (ms : List Message) (t : SymbolTable) → GiveTypes (with_includes hs) → AreSmall ms → HasItsNames t
+    → Prints (knowing hs) (header_parts ms t) (items_of ms t) (front t.guard ++ all_macros ms t.messages)
+at-headers hs ms t types small names =
+    subst (λ (is : List BareItem). Prints (knowing hs) (header_parts ms t) is (front t.guard ++ all_macros ms t.messages)) (all-items-are ms t.messages) (at-all hs ms t types small names)
+
+pub header-may-be-printed : (hs : List Header) (ms : List Message) (t : SymbolTable) → GiveTypes (with_includes hs) → AreSmall ms → HasItsNames t → IsHeaderAt (knowing hs) (header_parts ms t)
+header-may-be-printed hs ms t types small names =
+    let x = at-headers hs ms t types small names in
     record { right = x.right; balanced = messages-balanced ms t.messages }
 
-pub header-declares : (name : List ℕ) (ms : List Message) (t : SymbolTable) → IsIdentifier name → AreSmall ms → HasNamesApart t → DeclaresConstants name ms t (header_text ms t)
-header-declares name ms t h small apart =
-    let x = prints-header ms t small (guard-is_free t apart.file) (macros-are_own ms t apart.file) in
-    let none : AllByRecursion ItemWithin (header_items (header_parts ms t) nothing_known) = subst (λ is. AllByRecursion ItemWithin is) (sym x.no_items) tt in
-    let reads = header-reads (header_name name) (header_parts ms t) (name-beside name h) (header-may-be-printed ms t small apart) none in
-    subst (λ is. ReadAsUnit (header_name name) (header_text ms t) (including name) is (macros_of ms t)) x.no_items
+pub header-declares : (name : List ℕ) (ms : List Message) (t : SymbolTable) → IsIdentifier name → AreSmall ms → HasItsNames t → DeclaresMessages name ms t (header_text ms t)
+header-declares name ms t h small names =
+    let x = at-headers [] ms t three-give small names in
+    let within : AllByRecursion ItemWithin (header_items (header_parts ms t) nothing_known) = subst (λ is. AllByRecursion ItemWithin is) (sym x.items_are) (items-are-within (zip ms t.messages)) in
+    let reads = header-reads (header_name name) (header_parts ms t) (name-beside name h) (header-may-be-printed [] ms t three-give small names) within in
+    subst (λ is. ReadAsUnit (header_name name) (header_text ms t) (including name) is (macros_of ms t)) x.items_are
     (subst (λ ls. ReadAsUnit (header_name name) (header_text ms t) (including name) (header_items (header_parts ms t) nothing_known) ls) (ap (map macro_tokens) x.macros ∙ macros-are ms t) reads)

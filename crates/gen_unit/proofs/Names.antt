@@ -16,7 +16,6 @@ use Rattle.name_rules.specs.Symbols.{one_or_none, file_names_of_signal, file_nam
 use Rattle.name_rules.specs.Names.{is_c_name, AreApart}
 use Rattle.name_rules.proofs.NamesApart.{is_word}
 use Rattle.c_text.specs.Characters.{is_letter, goes_on, Pass, IsName}
-use Rattle.c_tree.specs.declared.symbol.Keyword.{Keyword}
 use Rattle.c_tree.specs.Symbol.{keywords as keyword_table, keyword_in}
 use Rattle.c_printed.specs.Printable.{IsFree}
 use Rattle.c_printed.specs.State.{Macro}
@@ -41,30 +40,31 @@ is-name (b ∷ bs) h = let both = and_parts (is_ascii_alphabetic b) (list_all is
 
 -- ---- a name that is not reserved is no keyword
 
-abbrev AreReserved : List (List ℕ × Keyword) → Type 0
-AreReserved es = AllByRecursion (λ (e : List ℕ × Keyword). is_reserved e.0 ≡ true) es
+module _ {A : Type 0} where
+  abbrev pub AreReserved : List (List ℕ × A) → Type 0
+  AreReserved es = AllByRecursion (λ (e : List ℕ × A). is_reserved e.0 ≡ true) es
 
-all-reserved : (es : List (List ℕ × Keyword)) → list_all (λ (e : List ℕ × Keyword). is_reserved e.0) es ≡ true → AreReserved es
-all-reserved [] h = tt
-all-reserved (e ∷ es) h = let both = and_parts (is_reserved e.0) (list_all (λ (d : List ℕ × Keyword). is_reserved d.0) es) h in (both.0, all-reserved es both.1)
+  pub all-reserved : (es : List (List ℕ × A)) → list_all (λ (e : List ℕ × A). is_reserved e.0) es ≡ true → AreReserved es
+  all-reserved [] h = tt
+  all-reserved (e ∷ es) h = let both = and_parts (is_reserved e.0) (list_all (λ (d : List ℕ × A). is_reserved d.0) es) h in (both.0, all-reserved es both.1)
+
+  pub not-listed : (x : List ℕ) (es : List (List ℕ × A)) → AreReserved es → is_reserved x ≡ false → look_up x es ≡ None
+  not-listed x [] h f = refl
+  not-listed x (e ∷ es) h f = by (bytes_eq e.0 x) refl (not-listed x es h.1 f)
+    where
+      by : (b : Bool) → bytes_eq e.0 x ≡ b → look_up x es ≡ None → cond b (Some e.1) (look_up x es) ≡ None
+      by true g k = absurd (both_ways (is_reserved x) f (ap is_reserved (sym ((bytes_eq-Decides e.0 x).0 g)) ∙ h.0))
+      by false g k = k
 
 table-reserved : AreReserved keyword_table
 unfolding keywords given_names sized_types
 table-reserved = all-reserved keyword_table refl
 
-not-listed : (x : List ℕ) (es : List (List ℕ × Keyword)) → AreReserved es → is_reserved x ≡ false → look_up x es ≡ None
-not-listed x [] h f = refl
-not-listed x (e ∷ es) h f = by (bytes_eq e.0 x) refl (not-listed x es h.1 f)
-  where
-    by : (b : Bool) → bytes_eq e.0 x ≡ b → look_up x es ≡ None → cond b (Some e.1) (look_up x es) ≡ None
-    by true g k = absurd (both_ways (is_reserved x) f (ap is_reserved (sym ((bytes_eq-Decides e.0 x).0 g)) ∙ h.0))
-    by false g k = k
-
 no-keyword : (x : List ℕ) → is_reserved x ≡ false → keyword_in x ≡ None
 unfolding keyword_in
 no-keyword x f = not-listed x keyword_table table-reserved f
 
-is-free : (x : List ℕ) → is_c_name x ≡ true → is_reserved x ≡ false → IsFree x
+pub is-free : (x : List ℕ) → is_c_name x ≡ true → is_reserved x ≡ false → IsFree x
 is-free x h f = (is-name x h, no-keyword x f)
 
 -- ---- the error's name is reserved

@@ -6,7 +6,7 @@ use Rattle.can_model.specs.declared.database.Message.{Message}
 use Rattle.name_rules.specs.declared.table.SymbolTable.{SymbolTable}
 use Rattle.name_rules.specs.declared.table.MessageNames.{MessageNames}
 use Rattle.gen_unit.specs.Header.{about}
-use Rattle.gen_unit.specs.HeaderMeaning.{number, in_brackets, macros_of}
+use Rattle.gen_unit.specs.Macros.{number, in_brackets, macros_of}
 
 abbrev ping : Message
 ping = record { id = 291; extended = false; name = codes "Ping"; length = 2; cycle = None; comment = []; signals = []; line = 3 }

@@ -1,15 +1,16 @@
 -- The header of a database, as a list of parts.
-use Rattle.std.specs.Prelude.{ℕ, Bool, true, false, ◌||◌, ◌==◌, nat_lt, if◌then◌else◌, List, [], ◌∷◌, ◌++◌, map, codes, Some, None}
+use Rattle.std.specs.Prelude.{ℕ, Bool, true, false, if◌then◌else◌, List, [], ◌∷◌, ◌++◌, codes, Some, None}
 use Rattle.std.specs.List.{flat_map, zip}
 use Rattle.can_model.specs.declared.database.Message.{Message}
 use Rattle.name_rules.specs.declared.table.SymbolTable.{SymbolTable}
 use Rattle.name_rules.specs.declared.table.MessageNames.{MessageNames}
 use Rattle.c_tree.specs.BareExpression.{Tree, constant, bracket}
-use Rattle.c_printed.specs.PrintedUnit.{Part, comment, blank, include, define, if_not_defined, end_if, unit_text}
+use Rattle.c_printed.specs.PrintedUnit.{Part, blank, include, define, if_not_defined, end_if, routine, unit_text}
+use Rattle.gen_unit.specs.Comments.{opening_text, remark, after_blank}
+use Rattle.gen_unit.specs.HeaderStruct.{struct_part}
+use Rattle.gen_unit.specs.PackHead.{pack_head}
 
--- the words that stand in every header
-unfoldable pub opening_text : List ℕ
-opening_text = codes "Generated from a CAN database. Do not edit."
+-- ---- the words that stand in every header
 
 unfoldable pub error_name : List ℕ
 error_name = codes "EINVAL"
@@ -23,26 +24,17 @@ size_header = codes "stddef.h"
 unfoldable pub integer_header : List ℕ
 integer_header = codes "stdint.h"
 
+-- the name of the header of a database
+abbrev pub header_name : List ℕ → List ℕ
+header_name name = name ++ codes ".h"
+
 -- ---- comments
-
--- what may stand in a comment: no byte that could end it, splice a line or begin a trigraph, and none outside ASCII's printed ones
-abbrev pub shown_byte : ℕ → ℕ
-shown_byte b = if nat_lt b 32 || nat_lt 126 b || b == 42 || b == 63 || b == 92 then 46 else b
-
--- a comment with these words, as far as they may stand there
-abbrev pub remark : List ℕ → Part
-remark words = comment (map shown_byte words)
-
--- a comment follows a blank, where there is one
-abbrev pub after_blank : List ℕ → List ℕ
-after_blank [] = []
-after_blank (b ∷ bs) = 32 ∷ b ∷ bs
 
 -- what is said of a message
 abbrev pub about : Message → List ℕ
 about m = codes "Message " ++ m.name ++ after_blank m.comment
 
--- ---- macros
+-- ---- messages
 
 -- a constant without `l`
 abbrev pub number : ℕ → ℕ → Bool → Tree
@@ -53,14 +45,21 @@ abbrev pub constant_macro : List ℕ → Tree → Part
 constant_macro name t = define name (Some (bracket t))
 
 -- a message's macros, by their names: its frame id, its length, and 1 where its frame is extended, else 0
-abbrev pub message_parts : Message → MessageNames → List Part
-message_parts m names =
+abbrev pub macro_parts : Message → MessageNames → List Part
+macro_parts m names =
     remark (about m)
     ∷ constant_macro names.frame_id (number m.id 16 true)
     ∷ constant_macro names.length (number m.length 10 true)
     ∷ constant_macro names.extended (number (if m.extended then 1 else 0) 10 false)
     ∷ blank
     ∷ []
+
+-- its struct, and the prototypes of its functions
+abbrev pub declared_parts : Message → MessageNames → List Part
+declared_parts m names = struct_part m names ∷ blank ∷ routine (pack_head names) None ∷ blank ∷ []
+
+abbrev pub message_parts : Message → MessageNames → List Part
+message_parts m names = macro_parts m names ++ declared_parts m names
 
 -- those of each message with its names
 abbrev pub all_message_parts : List Message → List MessageNames → List Part

@@ -2,12 +2,14 @@
 ghost use Rattle.std.specs.Prelude.{◌≡◌, ◌++◌, ◌∷◌, [], IfOk, OnOk};
 ghost use Rattle.c_printer.specs.BarePart.{bare_parts};
 ghost use Rattle.gen_unit.specs.Header as header;
-ghost use Rattle.gen_unit.specs.Header.{about, remark, message_parts, all_message_parts, opening_text, error_name, opening_parts, include_parts, error_parts, header_parts};
+ghost use Rattle.gen_unit.specs.Header.{about, macro_parts, declared_parts, message_parts, all_message_parts, error_name, opening_parts, include_parts, error_parts, header_parts};
 
 use crate::parts::{
     number, put_blank, put_comment, put_constant, put_define, put_end_if, put_if_not_defined,
-    put_include,
+    put_include, put_opening_comment,
 };
+use crate::prototypes::put_pack_prototype;
+use crate::structs::put_struct;
 use c_printer::{Part, PrintUnit};
 use can_model::Message;
 use cg_out::{List, Memory};
@@ -29,13 +31,6 @@ pub fn header_unit(
     put_messages(alloc, &mut parts, messages, names.messages.items())?;
     put_end_if(&mut parts)?;
     Ok(PrintUnit { parts })
-}
-
-#[tactic(auto, unfolding(crate::specs::Header::opening_text))]
-fn put_opening_comment(alloc: Global, parts: &mut List<Part>) -> Result<(), Memory>
-    ensures { OnOk result (bare_parts parts.new ≡ bare_parts parts.old ++ remark opening_text ∷ []) }
-{
-    put_comment(alloc, parts, b"Generated from a CAN database. Do not edit.")
 }
 
 fn put_opening(alloc: Global, parts: &mut List<Part>, guard: &[u8]) -> Result<(), Memory>
@@ -116,11 +111,37 @@ fn put_message(
 ) -> Result<(), Memory>
     ensures { OnOk result (bare_parts parts.new ≡ bare_parts parts.old ++ message_parts m.now names.now) }
 {
+    put_macros(alloc, parts, m, names)?;
+    put_declarations(alloc, parts, m, names)
+}
+
+fn put_macros(
+    alloc: Global,
+    parts: &mut List<Part>,
+    m: &Message,
+    names: &MessageNames,
+) -> Result<(), Memory>
+    ensures { OnOk result (bare_parts parts.new ≡ bare_parts parts.old ++ macro_parts m.now names.now) }
+{
     put_comment(alloc, parts, &about_message(alloc, m)?)?;
     put_constant(alloc, parts, names.frame_id.bytes(), m.id, 16, true)?;
     put_constant(alloc, parts, names.length.bytes(), m.length, 10, true)?;
     let extended = if m.extended { 1 } else { 0 };
     put_constant(alloc, parts, names.extended.bytes(), extended, 10, false)?;
+    put_blank(parts)
+}
+
+fn put_declarations(
+    alloc: Global,
+    parts: &mut List<Part>,
+    m: &Message,
+    names: &MessageNames,
+) -> Result<(), Memory>
+    ensures { OnOk result (bare_parts parts.new ≡ bare_parts parts.old ++ declared_parts m.now names.now) }
+{
+    put_struct(alloc, parts, m, names)?;
+    put_blank(parts)?;
+    put_pack_prototype(alloc, parts, names)?;
     put_blank(parts)
 }
 

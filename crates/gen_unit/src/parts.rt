@@ -4,7 +4,8 @@ ghost use Rattle.c_tree.specs.BareExpression.{bare_expression, bracket};
 ghost use Rattle.c_tree.specs.BareStatement.{bare_option};
 ghost use Rattle.c_printed.specs.PrintedUnit as spec;
 ghost use Rattle.c_printer.specs.BarePart.{bare_part, bare_parts};
-ghost use Rattle.gen_unit.specs.Header.{shown_byte, remark, constant_macro};
+ghost use Rattle.gen_unit.specs.Comments.{opening_text, shown_byte, remark};
+ghost use Rattle.gen_unit.specs.Header.{constant_macro};
 ghost use Rattle.gen_unit.specs.Header as header;
 
 use c_printer::Part;
@@ -14,7 +15,7 @@ use cg_out::{Boxed, List, Memory, Text};
 use std::alloc::{AllocError, Global};
 
 /// The place of a tree that no text has.
-fn nowhere() -> Place {
+pub fn nowhere() -> Place {
     Place {
         header: false,
         line: 0,
@@ -47,7 +48,7 @@ fn in_brackets(alloc: Global, inner: Expr) -> Result<Expr, Memory>
     })
 }
 
-fn put(parts: &mut List<Part>, part: Part) -> Result<(), Memory>
+pub fn put(parts: &mut List<Part>, part: Part) -> Result<(), Memory>
     ensures { OnOk result (bare_parts parts.new ≡ bare_parts parts.old ++ bare_part part ∷ []) }
 {
     parts.push(part)
@@ -63,7 +64,7 @@ fn shown(b: u8) -> u8
     }
 }
 
-fn shown_text(alloc: Global, text: &[u8]) -> Result<Vec<u8>, AllocError>
+pub fn shown_text(alloc: Global, text: &[u8]) -> Result<Vec<u8>, AllocError>
     ensures { IfOk result (λ v. v.items ≡ map shown_byte text.now) }
 {
     text.iter().map(|b| shown(*b)).collect(alloc)
@@ -80,6 +81,22 @@ pub fn put_blank(parts: &mut List<Part>) -> Result<(), Memory>
     ensures { OnOk result (bare_parts parts.new ≡ bare_parts parts.old ++ spec.blank ∷ []) }
 {
     put(parts, Part::Blank)
+}
+
+/// Puts the comment that every text begins with.
+#[tactic(auto, unfolding(crate::specs::Comments::opening_text))]
+pub fn put_opening_comment(alloc: Global, parts: &mut List<Part>) -> Result<(), Memory>
+    ensures { OnOk result (bare_parts parts.new ≡ bare_parts parts.old ++ remark opening_text ∷ []) }
+{
+    put_comment(alloc, parts, b"Generated from a CAN database. Do not edit.")
+}
+
+/// Puts the include of the header beside the source.
+pub fn put_include_beside(alloc: Global, parts: &mut List<Part>, name: &[u8]) -> Result<(), Memory>
+    ensures { OnOk result (bare_parts parts.new ≡ bare_parts parts.old ++ spec.include_beside name.now ∷ []) }
+{
+    let name = Text::copy_of(alloc, name)?;
+    put(parts, Part::Include { name, quoted: true })
 }
 
 /// Puts the include of a standard header.

@@ -1,39 +1,58 @@
-//! The header's text.
+//! The two texts of a database.
 ghost use Rattle.std.specs.Prelude.{◌≡◌, IfOk};
-ghost use Rattle.name_rules.specs.IsIdentifier.{IsIdentifier};
-ghost use Rattle.name_rules.specs.Names.{HasNamesApart};
-ghost use Rattle.gen_unit.specs.Small.{AreSmall};
-ghost use Rattle.gen_unit.specs.HeaderMeaning.{DeclaresConstants};
+ghost use Rattle.gen_unit.specs.NamedDatabase.{IsNamedDatabase};
+ghost use Rattle.gen_unit.specs.Faithful.{Faithful};
 ghost use Rattle.gen_unit.specs.Header.{header_text};
+ghost use Rattle.gen_unit.specs.Source.{source_text};
 
 use crate::header_unit::header_unit;
+use crate::source_unit::source_unit;
 use c_printer::print;
 use can_model::{Database, Message};
 use cg_out::Memory;
 use name_rules::SymbolTable;
 use std::alloc::Global;
 
-/// The header of the database of that name, an identifier: three macros for each message behind an
-/// include guard, by the names of the table, which is the database's.
-pub fn header(
+/// What is generated from a database: a header, and the source that includes it.
+#[derive(Debug, Drop)]
+pub struct Pair {
+    pub header: Vec<u8>,
+    pub source: Vec<u8>,
+}
+
+/// The header and the source of the database of that name, by the names of the table: three macros
+/// for each message behind an include guard, and a source that has no functions yet.
+pub fn generate(
     alloc: Global,
     name: &[u8],
     db: &Database,
     names: &SymbolTable,
-) -> Result<Vec<u8>, Memory>
-    ensures bytes { IfOk result (λ v. v.items ≡ header_text db.now.messages names.now) }
+) -> Result<Pair, Memory>
+    ensures texts { IfOk result (λ p. (p.header.items ≡ header_text db.now.messages names.now) × (p.source.items ≡ source_text name.now)) }
 
-    // What the bytes say as C.
-    ensures meaning { IsIdentifier name.now → AreSmall db.now.messages → HasNamesApart names.now
-        → IfOk result (λ v. DeclaresConstants name.now db.now.messages names.now v.items) }
+    // What the pair means as C, where the table is the database's.
+    ensures faithful { IsNamedDatabase name.now db.now names.now
+        → IfOk result (λ p. Faithful name.now db.now.messages names.now p.header.items p.source.items) }
 {
-    text(alloc, db.messages.items(), names)
+    Ok(Pair {
+        header: header(alloc, db.messages.items(), names)?,
+        source: source(alloc, name)?,
+    })
 }
 
-fn text(alloc: Global, messages: &[Message], names: &SymbolTable) -> Result<Vec<u8>, Memory>
+fn header(alloc: Global, messages: &[Message], names: &SymbolTable) -> Result<Vec<u8>, Memory>
     ensures { IfOk result (λ v. v.items ≡ header_text messages.now names.now) }
 {
     let unit = header_unit(alloc, messages, names)?;
+    let mut out = Vec::new(alloc);
+    print(&unit, &mut out)?;
+    Ok(out)
+}
+
+fn source(alloc: Global, name: &[u8]) -> Result<Vec<u8>, Memory>
+    ensures { IfOk result (λ v. v.items ≡ source_text name.now) }
+{
+    let unit = source_unit(alloc, name)?;
     let mut out = Vec::new(alloc);
     print(&unit, &mut out)?;
     Ok(out)
