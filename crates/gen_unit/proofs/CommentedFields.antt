@@ -1,5 +1,5 @@
 -- Fields and comments, side by side, are the fields with their comments.
-use Rattle.std.proofs.Common.{◌≡◌, ℕ, List, [], ◌∷◌, map, refl, sym, ap, ◌∙◌}
+use Rattle.std.proofs.Common.{◌≡◌, ℕ, List, [], ◌∷◌, map, refl, ap, ◌∙◌}
 use Rattle.std.specs.List.{zip}
 use Rattle.can_model.specs.declared.database.Signal.{Signal}
 use Rattle.name_rules.specs.declared.table.SignalNames.{SignalNames}

@@ -132,9 +132,8 @@ module _ (name : List ℕ) (prune : Bool) (named : IsIdentifier name) where
       let of_signals : List (List ℕ) = flat_map (wanted_of_signal prune front) m.signals in
       let names_of_signals : List (List ℕ) = flat_map file_names_of_signal n.signals in
       let after = behind-cycle m.cycle n.cycle (upper front ++ codes "_CYCLE_TIME_MS")
-        ((front ++ codes "_t") ∷ (front ++ codes "_pack") ∷ (front ++ codes "_unpack") ∷ (front ++ codes "_init") ∷ []) of_signals ws
-        (n.tag ∷ n.pack ∷ n.unpack ∷ n.init ∷ []) names_of_signals zs h.cycle pairs.1.1.1 in
-      (
+      ((front ++ codes "_t") ∷ (front ++ codes "_pack") ∷ (front ++ codes "_unpack") ∷ (front ++ codes "_init") ∷ []) of_signals ws
+      (n.tag ∷ n.pack ∷ n.unpack ∷ n.init ∷ []) names_of_signals zs h.cycle pairs.1.1.1 in (
         record {
           frame_id = sym pairs.0 ∙ large front (codes "_FRAME_ID") own;
           length = sym pairs.1.0 ∙ large front (codes "_LENGTH") own;

@@ -2,7 +2,6 @@
 use Rattle.std.proofs.Common.{◌≡◌, ℕ, Bool, true, false, cond, List, [], ◌∷◌, ◌++◌, map, None, refl, ap, ◌∙◌}
 use Rattle.std.specs.Prelude.{nat_le}
 use Rattle.std.specs.List.{AllByRecursion, flat_map}
-use Rattle.can_model.specs.declared.database.Message.{Message}
 use Rattle.can_model.specs.declared.database.Signal.{Signal}
 use Rattle.can_model.specs.RawValue.{field_bits}
 use Rattle.name_rules.specs.declared.table.MessageNames.{MessageNames}
@@ -58,8 +57,7 @@ pub own-names : (ns : List MessageNames) → AllByRecursion (λ x. is_c_name x �
 own-names [] words free apart letters = tt
 own-names (n ∷ ns) words free apart letters =
     let w = tag-pack (λ x. is_c_name x ≡ true) n ns words in
-    let f = tag-pack (λ x. is_reserved x ≡ false) n ns free in
-    (
+    let f = tag-pack (λ x. is_reserved x ≡ false) n ns free in (
       record {
         tag = is-own n.tag w.0.0 f.0.0 letters.0.tag;
         pack = is-own n.pack w.0.1 f.0.1 letters.0.pack;
