@@ -1,9 +1,8 @@
 //! Texts, and their trees in one line.
-use crate::copied::part;
 use crate::reading::{ALL, filled, line_of, unit_behind};
-use c_mean::{CFault, Unit};
-use c_printer::{PrintUnit, print};
-use cg_out::{List, Memory};
+use c_mean::{CFault, Item, Unit};
+use c_printer::{print_function, print_struct};
+use cg_out::Memory;
 use std::alloc::Global;
 use std::test::Fail;
 
@@ -217,12 +216,13 @@ const ITEMS: &[Row] = &[
 
 /// The text that the items of a unit are printed as.
 fn printed(alloc: Global, unit: &Unit) -> Result<Vec<u8>, Memory> {
-    let mut parts = List::new(alloc);
-    for item in unit.items.items() {
-        parts.push(part(alloc, item, &[])?)?;
-    }
     let mut out = Vec::new(alloc);
-    print(&PrintUnit { parts }, &mut out)?;
+    for item in unit.items.items() {
+        match item {
+            Item::Struct(item) => print_struct(item, &[], &mut out)?,
+            Item::Function(item) => print_function(item, &mut out)?,
+        }
+    }
     Ok(out)
 }
 
