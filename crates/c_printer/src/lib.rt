@@ -17,6 +17,7 @@ mod part;
 mod spelling;
 mod statement;
 
+pub use item::{print_function, print_struct};
 use part::print_part;
 pub use part::{Part, PrintUnit};
 use std::alloc::AllocError;

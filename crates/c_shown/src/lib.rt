@@ -5,5 +5,5 @@
 mod reading;
 mod shown;
 
-pub use reading::{body_of, read, unit_of};
+pub use reading::{read, unit_of};
 pub use shown::{Line, write_items, write_stmts};

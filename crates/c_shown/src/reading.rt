@@ -3,7 +3,7 @@ ghost use Rattle.c_text.specs.Refusal.{Gives};
 ghost use Rattle.c_text.specs.Tokens as lexing;
 
 use c_lexer::{SOURCE_LIMIT, tokens};
-use c_mean::{CFault, Item, Stmt, Token, Unit};
+use c_mean::{CFault, Token, Unit};
 use c_parser::unit;
 use c_pre::expand;
 use std::alloc::Global;
@@ -24,15 +24,4 @@ pub fn unit_of(alloc: Global, file: &str, header: &[u8], source: &[u8]) -> Resul
     let source = read(alloc, source, false)?;
     let left = expand(alloc, &header, file.as_bytes(), &source)?;
     unit(alloc, left.tokens.items())
-}
-
-/// The statements of the one function of a unit.
-pub fn body_of(unit: &Unit) -> &[Stmt] {
-    match unit.items.items() {
-        [Item::Function(function)] => match &function.body {
-            Some(body) => body.items(),
-            None => &[],
-        },
-        _ => &[],
-    }
 }

@@ -1,6 +1,6 @@
 //! Tables of C: a text, and beside it its trees or its first fault.
-use c_mean::{CFault, Place};
-use c_shown::{Line, body_of, unit_of, write_items, write_stmts};
+use c_mean::{CFault, Item, Place, Stmt, Unit};
+use c_shown::{Line, unit_of, write_items, write_stmts};
 use cg_out::Memory;
 use std::alloc::Global;
 
@@ -47,6 +47,17 @@ pub(super) fn items_of(alloc: Global, header: &[u8], source: &[u8]) -> Result<Ve
         Err(fault) => write_fault(alloc, &mut line, fault, header, source)?,
     }
     Ok(line.into_bytes())
+}
+
+/// The statements of the one function of a unit.
+fn body_of(unit: &Unit) -> &[Stmt] {
+    match unit.items.items() {
+        [Item::Function(function)] => match &function.body {
+            Some(body) => body.items(),
+            None => &[],
+        },
+        _ => &[],
+    }
 }
 
 /// The statements in the second line of a function, or the first fault.

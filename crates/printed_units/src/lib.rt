@@ -4,8 +4,6 @@
 #![tactic(auto)]
 
 #[cfg(test)]
-mod copied;
-#[cfg(test)]
 mod pieces;
 #[cfg(test)]
 mod reading;

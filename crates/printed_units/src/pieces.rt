@@ -1,10 +1,8 @@
-//! Parts of a unit, each made of a few texts.
-use crate::copied::{expression, part};
-use crate::reading::{WITHOUT_BOOL, filled, unit_behind};
-use c_mean::{CFault, Expr, StmtKind, Unit};
-use c_printer::{Part, PrintUnit, print};
-use c_shown::body_of;
-use cg_out::{List, Memory, Text};
+//! Parts of a unit, each made of a few texts and numbers.
+use crate::reading::{WITHOUT_BOOL, unit_behind};
+use c_mean::{CFault, Constant, Expr, ExprKind, Item, Place};
+use c_printer::{Part, PrintUnit, print, print_function, print_struct};
+use cg_out::{Boxed, List, Memory, Text};
 use std::alloc::Global;
 
 #[derive(Clone, Copy)]
@@ -17,75 +15,133 @@ pub(super) enum Piece {
     Beside(&'static str),
     IfNotDefined(&'static str),
     EndIf,
-    /// A macro's name, and its body, which may be empty.
-    Define(&'static str, &'static str),
+    Define(&'static str, Body),
     /// A struct or a function, and the comments before the fields.
     Item(&'static str, &'static [&'static str]),
 }
 
-fn include(alloc: Global, word: &str, quoted: bool) -> Result<Part, Memory> {
-    let name = Text::copy_of(alloc, word.as_bytes())?;
-    Ok(Part::Include { name, quoted })
-}
-
-/// The expression that the one function of a unit returns.
-fn returned(unit: &Unit) -> Option<&Expr> {
-    match body_of(unit) {
-        [stmt] => match &stmt.kind {
-            StmtKind::Return(value) => value.as_ref(),
-            _ => None,
-        },
-        _ => None,
-    }
-}
-
 /// The body of a macro.
-fn body(alloc: Global, text: &str) -> Result<Option<Expr>, CFault> {
-    let source = filled(alloc, "int f(void) { return @; }", text.as_bytes())?;
-    let unit = unit_behind(alloc, WITHOUT_BOOL, &source)?;
-    match returned(&unit) {
-        Some(value) => Ok(Some(expression(alloc, value)?)),
-        None => Ok(None),
+#[derive(Clone, Copy)]
+pub(super) enum Body {
+    Empty,
+    /// A decimal constant.
+    Alone(u64),
+    /// A constant in brackets: its value, its base, whether it has a `u`, and how many `l`.
+    Bracketed(u64, u8, bool, u8),
+}
+
+/// The place of a tree that no text has.
+const NOWHERE: Place = Place {
+    header: false,
+    line: 0,
+    start: 0,
+    end: 0,
+};
+
+fn expression(kind: ExprKind) -> Expr {
+    Expr {
+        place: NOWHERE,
+        kind,
     }
 }
 
-fn define(alloc: Global, name: &str, text: &str) -> Result<Part, CFault> {
-    let body = body(alloc, text)?;
-    let name = Text::copy_of(alloc, name.as_bytes())?;
+fn constant(value: u64, base: u8, unsigned: bool, longs: u8) -> Expr {
+    expression(ExprKind::Constant(Constant {
+        value,
+        base,
+        unsigned,
+        longs,
+    }))
+}
+
+fn body_of(alloc: Global, body: Body) -> Result<Option<Expr>, Memory> {
+    Ok(match body {
+        Body::Empty => None,
+        Body::Alone(value) => Some(constant(value, 10, false, 0)),
+        Body::Bracketed(value, base, unsigned, longs) => {
+            let inner = Boxed::new(alloc, constant(value, base, unsigned, longs))?;
+            Some(expression(ExprKind::Bracket(inner)))
+        }
+    })
+}
+
+fn text(alloc: Global, word: &str) -> Result<Text, Memory> {
+    Text::copy_of(alloc, word.as_bytes())
+}
+
+fn define(alloc: Global, name: &str, body: Body) -> Result<Part, Memory> {
+    let body = body_of(alloc, body)?;
+    let name = text(alloc, name)?;
     Ok(Part::Define { name, body })
 }
 
-/// The part of the first item of a text.
-fn item(alloc: Global, text: &str, comments: &[&str]) -> Result<Part, CFault> {
-    let unit = unit_behind(alloc, WITHOUT_BOOL, text.as_bytes())?;
-    match unit.items.items() {
-        [first, ..] => Ok(part(alloc, first, comments)?),
-        [] => Ok(Part::Blank),
+fn include(alloc: Global, word: &str, quoted: bool) -> Result<Part, Memory> {
+    let name = text(alloc, word)?;
+    Ok(Part::Include { name, quoted })
+}
+
+/// The part of a piece that is no item.
+fn part_of(alloc: Global, piece: Piece) -> Result<Part, Memory> {
+    match piece {
+        Piece::Comment(word) => Ok(Part::Comment(text(alloc, word)?)),
+        Piece::Blank | Piece::Item(..) => Ok(Part::Blank),
+        Piece::Include(name) => include(alloc, name, false),
+        Piece::Beside(name) => include(alloc, name, true),
+        Piece::IfNotDefined(name) => Ok(Part::IfNotDefined(text(alloc, name)?)),
+        Piece::EndIf => Ok(Part::EndIf),
+        Piece::Define(name, body) => define(alloc, name, body),
     }
 }
 
-fn part_of(alloc: Global, piece: Piece) -> Result<Part, CFault> {
-    match piece {
-        Piece::Comment(text) => Ok(Part::Comment(Text::copy_of(alloc, text.as_bytes())?)),
-        Piece::Blank => Ok(Part::Blank),
-        Piece::Include(name) => Ok(include(alloc, name, false)?),
-        Piece::Beside(name) => Ok(include(alloc, name, true)?),
-        Piece::IfNotDefined(name) => {
-            Ok(Part::IfNotDefined(Text::copy_of(alloc, name.as_bytes())?))
-        }
-        Piece::EndIf => Ok(Part::EndIf),
-        Piece::Define(name, text) => define(alloc, name, text),
-        Piece::Item(text, comments) => item(alloc, text, comments),
+fn print_piece(alloc: Global, piece: Piece, out: &mut Vec<u8>) -> Result<(), Memory> {
+    let mut parts = List::new(alloc);
+    parts.push(part_of(alloc, piece)?)?;
+    Ok(print(&PrintUnit { parts }, out)?)
+}
+
+fn texts(alloc: Global, words: &[&str]) -> Result<Vec<Text>, Memory> {
+    let mut list = Vec::new(alloc);
+    for word in words {
+        list.push(text(alloc, word)?)?;
     }
+    Ok(list)
+}
+
+fn print_item(
+    alloc: Global,
+    item: &Item,
+    comments: &[&str],
+    out: &mut Vec<u8>,
+) -> Result<(), Memory> {
+    let comments = texts(alloc, comments)?;
+    match item {
+        Item::Struct(item) => Ok(print_struct(item, &comments, out)?),
+        Item::Function(item) => Ok(print_function(item, out)?),
+    }
+}
+
+/// Prints the items of a text, in which `true` and `false` are names.
+fn print_items(
+    alloc: Global,
+    text: &str,
+    comments: &[&str],
+    out: &mut Vec<u8>,
+) -> Result<(), CFault> {
+    let unit = unit_behind(alloc, WITHOUT_BOOL, text.as_bytes())?;
+    for item in unit.items.items() {
+        print_item(alloc, item, comments, out)?;
+    }
+    Ok(())
 }
 
 /// The text that the parts are printed as.
 pub(super) fn printed(alloc: Global, pieces: &[Piece]) -> Result<Vec<u8>, CFault> {
-    let mut parts = List::new(alloc);
-    for piece in pieces {
-        parts.push(part_of(alloc, *piece)?)?;
-    }
     let mut out = Vec::new(alloc);
-    print(&PrintUnit { parts }, &mut out)?;
+    for piece in pieces {
+        match piece {
+            Piece::Item(text, comments) => print_items(alloc, text, comments, &mut out)?,
+            other => print_piece(alloc, *other, &mut out)?,
+        }
+    }
     Ok(out)
 }

@@ -1,39 +1,45 @@
 //! Texts, and their trees in one line.
-use crate::copied::part;
 use crate::reading::{ALL, filled, line_of, unit_behind};
-use c_mean::{CFault, Unit};
-use c_printer::{PrintUnit, print};
-use cg_out::{List, Memory};
+use c_mean::{CFault, Item, Unit};
+use c_printer::{print_function, print_struct};
+use cg_out::Memory;
 use std::alloc::Global;
+use std::process::Abort;
 use std::test::Fail;
 
 /// A text and its trees.
 type Row = (&'static str, &'static str);
 
 /// What stands around texts, and around their lines, with `@` where these stand; and the rows.
-type Table = (&'static str, &'static str, &'static [Row]);
+struct Table {
+    text: &'static str,
+    line: &'static str,
+    rows: &'static [Row],
+}
 
 const TABLES: &[Table] = &[
-    EXPRESSIONS_OF_A_FUNCTION,
-    STATEMENTS_OF_A_FUNCTION,
-    TYPES_OF_A_UNIT,
-    ("@", "@", ITEMS),
+    Table {
+        text: "int f(void)\n{\n    return @;\n}\n",
+        line: "(int f : (return @))",
+        rows: EXPRESSIONS,
+    },
+    Table {
+        text: "int f(void)\n{\n@}\n",
+        line: "(int f : @)",
+        rows: STATEMENTS,
+    },
+    // A type wherever one stands.
+    Table {
+        text: "struct s_t {\n    @ f;\n};\nstatic @ g(@ a)\n{\n    @ x = (@)a;\n}\n",
+        line: "(struct s_t (@ f)) (static @ g (@ a) : (declare @ x (cast @ a)))",
+        rows: TYPES,
+    },
+    Table {
+        text: "@",
+        line: "@",
+        rows: ITEMS,
+    },
 ];
-
-const EXPRESSIONS_OF_A_FUNCTION: Table = (
-    "int f(void)\n{\n    return @;\n}\n",
-    "(int f : (return @))",
-    EXPRESSIONS,
-);
-
-const STATEMENTS_OF_A_FUNCTION: Table = ("int f(void)\n{\n@}\n", "(int f : @)", STATEMENTS);
-
-/// A type wherever one stands.
-const TYPES_OF_A_UNIT: Table = (
-    "struct s_t {\n    @ f;\n};\nstatic @ g(@ a)\n{\n    @ x = (@)a;\n}\n",
-    "(struct s_t (@ f)) (static @ g (@ a) : (declare @ x (cast @ a)))",
-    TYPES,
-);
 
 const EXPRESSIONS: &[Row] = &[
     // Constants, of which the line shows the value in base 10.
@@ -217,12 +223,13 @@ const ITEMS: &[Row] = &[
 
 /// The text that the items of a unit are printed as.
 fn printed(alloc: Global, unit: &Unit) -> Result<Vec<u8>, Memory> {
-    let mut parts = List::new(alloc);
-    for item in unit.items.items() {
-        parts.push(part(alloc, item, &[])?)?;
-    }
     let mut out = Vec::new(alloc);
-    print(&PrintUnit { parts }, &mut out)?;
+    for item in unit.items.items() {
+        match item {
+            Item::Struct(item) => print_struct(item, &[], &mut out)?,
+            Item::Function(item) => print_function(item, &mut out)?,
+        }
+    }
     Ok(out)
 }
 
@@ -235,22 +242,26 @@ fn holds(alloc: Global, text: &[u8], line: &[u8]) -> Result<bool, CFault> {
 }
 
 /// Whether the row of a table holds.
-fn row_holds(alloc: Global, table: Table, row: Row) -> Result<bool, CFault> {
-    let (around_text, around_line, _) = table;
+fn row_holds(alloc: Global, table: &Table, row: Row) -> Result<bool, CFault> {
     let (text, line) = row;
-    let text = filled(alloc, around_text, text.as_bytes())?;
-    let line = filled(alloc, around_line, line.as_bytes())?;
+    let text = filled(alloc, table.text, text.as_bytes())?;
+    let line = filled(alloc, table.line, line.as_bytes())?;
     holds(alloc, &text, &line)
+}
+
+/// Goes over the rows of a table.
+fn check(rt: &impl Abort, alloc: Global, table: &Table) -> Result<(), Fail> {
+    for &row in table.rows {
+        let holds = matches!(row_holds(alloc, table, row), Ok(true));
+        assert!(rt; holds, "of {}", row.0);
+    }
+    Ok(())
 }
 
 #[test]
 fn texts_are_printed_again(rt: HostRuntime) -> Result<(), Fail> {
-    for &table in TABLES {
-        let (_, _, rows) = table;
-        for &row in rows {
-            let holds = matches!(row_holds(rt.alloc(), table, row), Ok(true));
-            assert!(rt; holds, "of {}", row.0);
-        }
+    for table in TABLES {
+        check(&rt, rt.alloc(), table)?;
     }
     Ok(())
 }

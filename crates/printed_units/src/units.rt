@@ -1,5 +1,5 @@
 //! Parts, the text that they are printed as, and the items that are read of it.
-use crate::pieces::{Piece, printed};
+use crate::pieces::{Body, Piece, printed};
 use crate::reading::{ALL, line_of, unit_behind};
 use c_mean::CFault;
 use c_shown::unit_of;
@@ -24,30 +24,42 @@ const ROWS: &[Row] = &[
     (&[Piece::Blank], "\n", ""),
     (&[Piece::Include("string.h")], "#include <string.h>\n", ""),
     (&[Piece::Beside("can.h")], "#include \"can.h\"\n", ""),
-    (&[Piece::Define("A", "")], "#define A\n", ""),
-    (&[Piece::Define("A", "22")], "#define A 22\n", ""),
-    (&[Piece::Define("A", "(8u)")], "#define A (8u)\n", ""),
-    (&[Piece::Define("A", "(0x0)")], "#define A (0x0)\n", ""),
+    (&[Piece::Define("A", Body::Empty)], "#define A\n", ""),
+    (&[Piece::Define("A", Body::Alone(22))], "#define A 22\n", ""),
     (
-        &[Piece::Define("A", "(0x01f0u)")],
+        &[Piece::Define("A", Body::Bracketed(8, 10, true, 0))],
+        "#define A (8u)\n",
+        "",
+    ),
+    (
+        &[Piece::Define("A", Body::Bracketed(0, 16, false, 0))],
+        "#define A (0x0)\n",
+        "",
+    ),
+    (
+        &[Piece::Define("A", Body::Bracketed(0x1f0, 16, true, 0))],
         "#define A (0x1f0u)\n",
         "",
     ),
     (
-        &[Piece::Define("A", "(0x00010000ul)")],
+        &[Piece::Define("A", Body::Bracketed(0x10000, 16, true, 1))],
         "#define A (0x10000ul)\n",
         "",
     ),
     (
-        &[Piece::Define("A", "(0xffffffffffffffff)")],
+        &[Piece::Define("A", Body::Bracketed(u64::MAX, 16, false, 0))],
         "#define A (0xffffffffffffffff)\n",
         "",
     ),
-    (&[Piece::Define("A", "(010ll)")], "#define A (010ll)\n", ""),
+    (
+        &[Piece::Define("A", Body::Bracketed(8, 8, false, 2))],
+        "#define A (010ll)\n",
+        "",
+    ),
     (
         &[
             Piece::IfNotDefined("A"),
-            Piece::Define("A", ""),
+            Piece::Define("A", Body::Empty),
             Piece::EndIf,
         ],
         "#ifndef A\n#define A\n#endif\n",
@@ -74,7 +86,7 @@ const ROWS: &[Row] = &[
     ),
     (
         &[
-            Piece::Define("A", "(8u)"),
+            Piece::Define("A", Body::Bracketed(8, 10, true, 0)),
             Piece::Item("int f(void) { return A; }", &[]),
         ],
         "#define A (8u)\nint f(void)\n{\n    return A;\n}\n",
@@ -104,17 +116,17 @@ const HEADER_PIECES: &[Piece] = &[
     Piece::Comment("A header."),
     Piece::Blank,
     Piece::IfNotDefined("E_H"),
-    Piece::Define("E_H", ""),
+    Piece::Define("E_H", Body::Empty),
     Piece::Blank,
     Piece::Include("stdbool.h"),
     Piece::Include("stddef.h"),
     Piece::Include("stdint.h"),
     Piece::Blank,
     Piece::IfNotDefined("EINVAL"),
-    Piece::Define("EINVAL", "22"),
+    Piece::Define("EINVAL", Body::Alone(22)),
     Piece::EndIf,
     Piece::Blank,
-    Piece::Define("E_LENGTH", "(2u)"),
+    Piece::Define("E_LENGTH", Body::Bracketed(2, 10, true, 0)),
     Piece::Blank,
     Piece::Item(
         "struct e_t { uint16_t speed; _Bool on; };",
