@@ -1,14 +1,14 @@
 -- What is proved of them.
-mod Members
+pub mod Members
 mod InPairs
 mod Numbers
 mod SegmentBits
-mod Segments
+pub mod Segments
 mod OwnLocals
-mod Putting
+pub mod Putting
 mod Fields
 mod Declarations
-mod Flat
+pub mod Flat
 mod Frames
 mod Steps
 mod Expanding

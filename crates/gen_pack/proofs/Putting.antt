@@ -48,7 +48,7 @@ use Rattle.gen_pack.proofs.OwnLocals.{IsOther, AreOther, HaveOwn, own-or_same, I
 
 -- ---- the width of a field
 
-width-is : (n : ℕ) → has_bits n ≡ true → IsWidth (field_bits n) × (n ≤ field_bits n)
+pub width-is : (n : ℕ) → has_bits n ≡ true → IsWidth (field_bits n) × (n ≤ field_bits n)
 width-is n h = elim (leb_tells n 8) [
   | inl a ↦ (rw a.0 (inl refl), rw a.0 a.1)
   | inr a ↦ elim (leb_tells n 16) [

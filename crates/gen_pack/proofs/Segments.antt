@@ -55,7 +55,7 @@ pub record IsPackCall (w : ℕ) (g : Segment) : Type 0 where
   pub small : pack_shift g < 2 ^ 8
   pub mask : mask_of g < 2 ^ 8
 
-pack-call : (w length : ℕ) (g : Segment) → IsWidth w → length ≤ w → IsWithin length g → IsPackCall w g
+pub pack-call : (w length : ℕ) (g : Segment) → IsWidth w → length ≤ w → IsWithin length g → IsPackCall w g
 pack-call w length g iw le l =
     let top : 2 ^ (g.byte_low + g.count) ≤ 2 ^ 8 = pow_mono {i = g.byte_low + g.count} {j = 8} (omega (arith, l.in_byte)) in
     let low : 0 < 2 ^ g.byte_low = pow_pos g.byte_low in
@@ -118,6 +118,14 @@ any-is_below s v p =
       λ h. any-below s v (segments_of s) p c.within h,
       λ h. (let one = c.once h.0 h.1 in any-at s v (segments_of s) p h.0 one.0 one.1 h.2 h.3),
     )
+
+-- each segment of a signal that stands in the message is in a byte of it
+pub segments-inside : (s : Signal) (size : ℕ) (gs : List Segment) → ((k : ℕ) → k < s.length → place_of s k < 8 * size) → AllByRecursion (IsWithin s.length) gs → AllByRecursion (TellsPlaces s) gs → AllByRecursion (λ g. g.byte < size) gs
+segments-inside s size [] inside within told = tt
+segments-inside s size (g ∷ gs) inside within told =
+    let has : HasBit g.signal_low g = record { low = omega arith; high = omega (arith, within.0.some) } in
+    let place = inside g.signal_low (omega (arith, within.0.some, within.0.in_signal)) in
+    (omega (arith, place, told.0 g.signal_low has), segments-inside s size gs inside within.1 told.1)
 
 -- ---- where the statements of a message's signals run
 
@@ -209,14 +217,6 @@ module _ (m : DataModel) (one : IsOneOf m) (items : List Item) (objects : List O
           adds = adds-both bytes next then_.left (IsOfSegment x.signal v g) (IsOfAny x.signal v gs) first then_.adds;
         }
 
-    -- each segment of a signal that stands in the message is in a byte of it
-    segment-inside : (gs : List Segment) → ((k : ℕ) → k < x.signal.length → place_of x.signal k < 8 * size) → AllByRecursion (IsWithin x.signal.length) gs → AllByRecursion (TellsPlaces x.signal) gs → AllByRecursion (λ g. g.byte < size) gs
-    segment-inside [] inside within told = tt
-    segment-inside (g ∷ gs) inside within told =
-        let has : HasBit g.signal_low g = record { low = omega arith; high = omega (arith, within.0.some) } in
-        let place = inside g.signal_low (omega (arith, within.0.some, within.0.in_signal)) in
-        (omega (arith, place, told.0 g.signal_low has), segment-inside gs inside within.1 told.1)
-
     pub record Put (bytes : List ℕ) : Type 0 where
       pub left : List ℕ
       pub is : sequence (effects_of world (map grown_stmt (map (segment_put x) (segments_of x.signal)))) locals (shown bytes) ≡ after (Ok Next) locals (shown left)
@@ -226,5 +226,5 @@ module _ (m : DataModel) (one : IsOneOf m) (items : List Item) (objects : List O
     unfolding w
     segments-put bytes inside helpers b =
         let c : Covers x.signal (segments_of x.signal) = segments-cover x.signal in
-        let all = join (segments_of x.signal) bytes c.within c.places helpers (segment-inside (segments_of x.signal) inside c.within c.places) b in
+        let all = join (segments_of x.signal) bytes c.within c.places helpers (segments-inside x.signal size (segments_of x.signal) inside c.within c.places) b in
         record { left = all.left; is = all.is; adds = adds-same bytes all.left (IsOfAny x.signal v (segments_of x.signal)) (IsBitBelow x.signal v x.signal.length) all.adds (any-is_below x.signal v) }
