@@ -1,6 +1,6 @@
 -- A pack function may be printed so that it reads back.
-use Rattle.std.proofs.Common.{◌≡◌, ℕ, ◌^◌, ◌<◌, ◌≤◌, Bool, true, false, List, [], ◌∷◌, ◌++◌, map, Option, Some, None, refl, sym, subst, arith}
-use Rattle.std.specs.Prelude.{◌==◌, if◌then◌else◌, slice_get}
+use Rattle.std.proofs.Common.{ℕ, ◌^◌, ◌<◌, ◌≤◌, Bool, true, false, List, [], ◌∷◌, ◌++◌, map, Option, Some, None, refl, sym, subst, arith}
+use Rattle.std.specs.Prelude.{◌==◌, if◌then◌else◌}
 use Rattle.std.specs.List.{AllByRecursion, flat_map}
 use Rattle.can_model.specs.declared.database.Message.{Message}
 use Rattle.can_model.specs.declared.database.Signal.{Signal}
@@ -8,9 +8,9 @@ use Rattle.can_model.specs.Place.{IsPlaced}
 use Rattle.can_model.specs.Validity.{IsOfValidDatabase}
 use Rattle.can_model.proofs.Placed.{placed, not_long}
 use Rattle.name_rules.specs.declared.table.MessageNames.{MessageNames}
-use Rattle.c_tree.specs.BareExpression.{Tree, name, constant}
+use Rattle.c_tree.specs.BareExpression.{name}
 use Rattle.c_tree.specs.BareStatement.{Action, actions_of}
-use Rattle.c_printed.specs.Printable.{IsFree, IsConstant, ten, sixteen, w8, Fits, FitsAction, FitActions}
+use Rattle.c_printed.specs.Printable.{IsFree, ten, sixteen, Fits, FitsAction, FitActions}
 use Rattle.c_printed.specs.PrintableItem.{IsHead, FitsBody}
 use Rattle.bit_layout.specs.declared.walk.Segment.{Segment}
 use Rattle.bit_layout.specs.Covers.{Covers, IsWithin}
@@ -19,7 +19,7 @@ use Rattle.bit_layout.proofs.Covering.{segments-cover}
 use Rattle.gen_pack.specs.SegmentMove.{width_of, pack_kind, pack_shift, mask_of}
 use Rattle.gen_pack.specs.Parts.{Part, parts_of}
 use Rattle.gen_pack.specs.Switches.{HasNoParent}
-use Rattle.gen_pack.specs.PackTree.{buffer, source, size, error_name, number, unsigned, field, name_or, segment_put, local_declared, local_set, declared, part_put, all_put, size_asked, cleared, unread, returned, long_body, empty_body, message_body, pack_head}
+use Rattle.gen_pack.specs.PackTree.{error_name, number, unsigned, field, name_or, segment_put, local_declared, local_set, declared, part_put, all_put, size_asked, cleared, unread, returned, long_body, empty_body, message_body, pack_head}
 use Rattle.gen_pack.proofs.Segments.{pack-call, segments-inside}
 use Rattle.gen_pack.proofs.Putting.{width-is}
 use Rattle.gen_pack.proofs.Flat.{all-put-flat, signal-at}
@@ -70,10 +70,14 @@ module _ (words : AreFreeWords) where
 
   segments-fit : (x : Part) (gs : List Segment) → AllByRecursion (IsSmall (width_of x.signal)) gs → OfLocal IsFree x.names.local → IsFree x.names.field → Fit (map (segment_put x) gs)
   segments-fit x [] small l f = tt
-  segments-fit x (g ∷ gs) small l f =
-      ((refl, (words.buffer, decimal g.byte small.0.byte),
-        (words.helpers (pack_kind g) (width_of x.signal) (printed-width x.signal.length), (taken-fits x x.names.local l f, (with-u (pack_shift g) small.0.shift, (mask-fits (mask_of g) small.0.mask, tt))))),
-       segments-fit x gs small.1 l f)
+  segments-fit x (g ∷ gs) small l f = (
+    (
+      refl,
+      (words.buffer, decimal g.byte small.0.byte),
+      (words.helpers (pack_kind g) (width_of x.signal) (printed-width x.signal.length), (taken-fits x x.names.local l f, (with-u (pack_shift g) small.0.shift, (mask-fits (mask_of g) small.0.mask, tt)))),
+    ),
+    segments-fit x gs small.1 l f,
+  )
 
   set-fits : (o : Option (List ℕ)) (x : Part) → OfLocal IsFree o → IsFree x.names.field → Fit (local_set o (width_of x.signal) (field x))
   set-fits None x l f = tt
@@ -127,7 +131,7 @@ module _ (words : AreFreeWords) where
         let put : Fit (all_put ps) = subst Fit (sym (all-put-flat message.signals names.signals flat)) (parts-fit ps small-parts l f) in
         fit-both (unread ps) _ (unread-fits ps)
         (fit-both (flat_map declared ps) _ (declared-fit ps l)
-          (asked-fits message.length length-small, (cleared-fits message.length length-small, fit-both (all_put ps) (returned (number message.length) ∷ []) put (decimal message.length length-small, tt))))
+        (asked-fits message.length length-small, (cleared-fits message.length length-small, fit-both (all_put ps) (returned (number message.length) ∷ []) put (decimal message.length length-small, tt))))
 
     -- the body fits
     pub pack-fits : FitsBody (Some (actions_of (message_body (name error_name) message names)))

@@ -1,5 +1,5 @@
 -- In a pack function few brackets are open at once.
-use Rattle.std.proofs.Common.{◌≡◌, ℕ, Bool, true, false, List, [], ◌∷◌, ◌++◌, map, Option, Some, None, sym, subst}
+use Rattle.std.proofs.Common.{ℕ, Bool, true, false, List, [], ◌∷◌, ◌++◌, map, Option, Some, None, sym, subst}
 use Rattle.std.specs.Prelude.{◌==◌, if◌then◌else◌}
 use Rattle.std.specs.List.{AllByRecursion, flat_map}
 use Rattle.can_model.specs.declared.database.Message.{Message}
@@ -11,7 +11,7 @@ use Rattle.bit_layout.specs.Segments.{segments_of}
 use Rattle.gen_pack.specs.SegmentMove.{width_of}
 use Rattle.gen_pack.specs.Parts.{Part, parts_of}
 use Rattle.gen_pack.specs.Switches.{HasNoParent}
-use Rattle.gen_pack.specs.PackTree.{number, field, name_or, segment_put, local_declared, local_set, declared, part_put, all_put, size_asked, cleared, unread, returned, long_body, empty_body, message_body, pack_function}
+use Rattle.gen_pack.specs.PackTree.{number, field, name_or, segment_put, local_declared, local_set, declared, part_put, all_put, unread, returned, long_body, empty_body, pack_function}
 use Rattle.gen_pack.proofs.Flat.{all-put-flat}
 
 abbrev Room : List Action → Type 0
@@ -59,7 +59,7 @@ module _ (message : Message) (names : MessageNames) (flat : AllByRecursion HasNo
       let put : Room (all_put ps) = subst Room (sym (all-put-flat message.signals names.signals flat)) (parts-room ps) in
       room-both (unread ps) _ (unread-room ps)
       (room-both (flat_map declared ps) _ (all-declared-room ps)
-        (((tt, tt), (tt, tt)), ((tt, (tt, (tt, tt))), room-both (all_put ps) (returned (number n) ∷ []) put (tt, tt))))
+      (((tt, tt), (tt, tt)), ((tt, (tt, (tt, tt))), room-both (all_put ps) (returned (number n) ∷ []) put (tt, tt))))
 
   empty-room : Room empty_body
   unfolding empty_body

@@ -1,24 +1,23 @@
 -- In a text that gives its words what they need, a pack function is left as its tree with EINVAL as the number.
-use Rattle.std.proofs.Common.{◌≡◌, ℕ, Bool, true, false, cond, List, [], ◌∷◌, ◌++◌, map, Option, Some, None, refl, sym, ap, subst, ◌∙◌}
+use Rattle.std.proofs.Common.{◌≡◌, ℕ, Bool, true, false, cond, List, [], ◌∷◌, ◌++◌, map, Option, Some, None, sym, subst}
 use Rattle.std.specs.Prelude.{◌==◌, if◌then◌else◌, nat_le}
 use Rattle.std.specs.List.{AllByRecursion, flat_map}
 use Rattle.can_model.specs.declared.database.Message.{Message}
 use Rattle.can_model.specs.RawValue.{field_bits}
 use Rattle.name_rules.specs.declared.table.MessageNames.{MessageNames}
-use Rattle.c_text.specs.declared.token.Spelled.TheVariants.{Exact}
-use Rattle.c_tree.specs.BareExpression.{Tree, name}
+use Rattle.c_tree.specs.BareExpression.{name}
 use Rattle.c_tree.specs.BareStatement.{Action, actions_of}
 use Rattle.c_printed.specs.Spelling.{left}
 use Rattle.c_printed.specs.PrintedExpression.{tokens_of}
 use Rattle.c_printed.specs.Expanded.{Meaning, or_name}
 use Rattle.c_printed.specs.Printable.{IsWidth, w8, w16, w32, w64}
-use Rattle.c_printed.specs.Settled.{Becomes, Stands, TypeStands, IsAtom, Settles, SettlesAction, SettleActions, SettlesItem}
+use Rattle.c_printed.specs.Settled.{Becomes, Stands, IsAtom, Settles, SettlesAction, SettleActions, SettlesItem}
 use Rattle.bit_layout.specs.declared.walk.Segment.{Segment}
 use Rattle.bit_layout.specs.Segments.{segments_of}
 use Rattle.gen_pack.specs.SegmentMove.{width_of, pack_kind}
 use Rattle.gen_pack.specs.Parts.{Part, parts_of}
 use Rattle.gen_pack.specs.Switches.{HasNoParent}
-use Rattle.gen_pack.specs.PackTree.{buffer, source, size, error_name, number, field, name_or, taken, segment_put, local_declared, local_set, declared, part_put, all_put, size_asked, cleared, unread, returned, long_body, empty_body, message_body, pack_function}
+use Rattle.gen_pack.specs.PackTree.{buffer, size, error_name, number, field, name_or, segment_put, local_declared, local_set, declared, part_put, all_put, size_asked, cleared, unread, returned, long_body, empty_body, message_body, pack_function}
 use Rattle.gen_pack.proofs.Flat.{all-put-flat}
 use Rattle.gen_printed.specs.Known.{StandsAlone, KnowsHeaders, KnowsNames}
 use Rattle.gen_printed.proofs.Words.{OfLocal, locals-by_part, fields-by_part}
@@ -110,7 +109,7 @@ module _ (env : Becomes) (meaning : Meaning) (known : KnowsHeaders env meaning) 
         let put : Settle (all_put ps) = subst Settle (sym (all-put-flat message.signals names.signals flat)) (parts-settle ps l f) in
         settle-both (unread ps) _ (unread-settles ps)
         (settle-both (flat_map declared ps) _ (declared-settle ps l)
-          (asked-settles n, (cleared-settles n, settle-both (all_put ps) (returned (number n) ∷ []) put (tt, tt))))
+        (asked-settles n, (cleared-settles n, settle-both (all_put ps) (returned (number n) ∷ []) put (tt, tt))))
 
     body-settles : Settle (message_body (name error_name) message names)
     body-settles = by (message.length == 0) where

@@ -1,10 +1,10 @@
 -- What holds of the names of a message's signals, by signal.
-use Rattle.std.proofs.Common.{◌≡◌, ℕ, suc, List, [], ◌∷◌, ◌++◌, map, Option, Some, None, refl}
+use Rattle.std.proofs.Common.{ℕ, suc, List, [], ◌∷◌, ◌++◌, map, Option, Some, None}
 use Rattle.std.specs.List.{AllByRecursion, flat_map}
 use Rattle.can_model.specs.declared.database.Signal.{Signal}
 use Rattle.name_rules.specs.declared.table.SignalNames.{SignalNames}
 use Rattle.name_rules.specs.Symbols.{one_or_none}
-use Rattle.gen_pack.specs.Parts.{Part, part, parts_from}
+use Rattle.gen_pack.specs.Parts.{Part, parts_from}
 
 module _ (P : List ℕ → Type 0) where
   -- of a local, where there is one

@@ -2,7 +2,6 @@
 use Rattle.std.specs.Prelude.{◌≡◌, ℕ, Bool, List, Some, None}
 use Rattle.std.specs.List.{AllByRecursion}
 use Rattle.name_rules.specs.declared.table.MessageNames.{MessageNames}
-use Rattle.name_rules.specs.declared.table.SignalNames.{SignalNames}
 use Rattle.name_rules.specs.Symbols.{field_names, local_names}
 use Rattle.c_text.specs.declared.token.IntType.TheVariants.{Int}
 use Rattle.c_text.specs.declared.token.Spelled.TheVariants.{Exact, Size, Plain}
