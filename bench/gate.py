@@ -3,6 +3,7 @@
 
 python3 bench/gate.py          proves every crate anew, which takes as long as the gate from nothing
 python3 bench/gate.py --kept   takes what earlier runs of the gate kept, so counts what is new alone
+python3 bench/gate.py NAME..   the same for these crates and those below them
 
 The processes of the run are looked at five times a second, so what a process does last may be missed.
 The lines are rows of docs/GATE.md; the gate's own output goes to out/gate.log.
@@ -47,7 +48,8 @@ def look(session, seen):
 
 
 def main():
-    words = ["rt", "ci"] if sys.argv[1:] == ["--kept"] else ["rt", "ci", "--anew"]
+    names = [word for word in sys.argv[1:] if word != "--kept"]
+    words = ["rt", "ci", *(names if sys.argv[1:] else ["--anew"])]
     os.makedirs(os.path.join(TOP, "out"), exist_ok=True)
     seen = {}
     start = time.time()
