@@ -11,6 +11,6 @@ mod Declarations
 pub mod Flat
 mod Frames
 mod Steps
-mod Expanding
+pub mod Expanding
 mod Running
-mod Anywhere
+pub mod Anywhere

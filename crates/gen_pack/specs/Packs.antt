@@ -1,5 +1,5 @@
 -- What a pack function does when it is called (ISO/IEC 9899:1999, 6.5.2.2), under each data model and in any unit that has what it calls.
-use Rattle.std.specs.Prelude.{◌≡◌, ℕ, ◌^◌, ◌<◌, ◌≤◌, true, List, [], ◌∷◌, ◌++◌, map, length, drop, slice_get, slice_set, IsSomeAnd, Some, None, Ok, ℤ, pos, negsuc}
+use Rattle.std.specs.Prelude.{◌≡◌, ℕ, ◌^◌, ◌<◌, ◌≤◌, true, List, [], ◌∷◌, ◌++◌, map, length, drop, slice_get, slice_set, IfSome, IsSomeAnd, Some, None, Ok, ℤ, pos, negsuc}
 use Rattle.std.specs.List.{AllByRecursion}
 use Rattle.can_model.specs.declared.database.Message.{Message}
 use Rattle.can_model.specs.declared.database.Signal.{Signal}
@@ -48,7 +48,7 @@ arguments to from size = arg.Pointer to ∷ arg.Pointer from ∷ arg.Integer (po
 
 -- a field that has a value has one of its type
 abbrev pub AreOfFields : Message → CellsOf ℤ → Type 0
-AreOfFields m values = (i : ℕ) → IsSomeAnd (slice_get m.signals i) (λ s. (v : ℤ) → value_at values i ≡ Some v → is_field_value s.length s.signed v ≡ true)
+AreOfFields m values = (i : ℕ) → IfSome (slice_get m.signals i) (λ s. IfSome (value_at values i) (λ v. is_field_value s.length s.signed v ≡ true))
 
 -- the fields of active signals have values
 abbrev pub HaveActive : Message → CellsOf ℤ → Type 0

@@ -1,0 +1,4 @@
+-- What the laws speak of.
+pub mod CalledHelpers
+pub mod UnitItems
+pub mod ItemNames
