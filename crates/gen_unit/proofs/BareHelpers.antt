@@ -133,10 +133,10 @@ module _ (s : State) (k : KnowsSource s) where
   cast-settles w op l r iw hl hr = (exact-stands s k.knows w false iw, (hl, hr))
 
   packed-settles : (op : BinaryOp) → Settles (becomes s) (meaning s) (bare_packed op)
-  packed-settles op = cast-settles 8 o.BitAnd _ _ w8 (cast-settles 8 op value shift w8 (settles _ value-own) (settles _ shift-own)) (settles _ mask-own)
+  packed-settles op = cast-settles 8 o.BitAnd (bare_cast 8 op value shift) mask w8 (cast-settles 8 op value shift w8 (settles _ value-own) (settles _ shift-own)) (settles _ mask-own)
 
   unpacked-settles : (w : ℕ) (op : BinaryOp) → IsWidth w → Settles (becomes s) (meaning s) (bare_unpacked w op)
-  unpacked-settles w op iw = cast-settles w op _ _ iw (cast-settles w o.BitAnd value mask iw (settles _ value-own) (settles _ mask-own)) (settles _ shift-own)
+  unpacked-settles w op iw = cast-settles w op (bare_cast w o.BitAnd value mask) shift iw (cast-settles w o.BitAnd value mask iw (settles _ value-own) (settles _ mask-own)) (settles _ shift-own)
 
   returned-settles : (kind : HelperKind) (w : ℕ) → IsWidth w → Settles (becomes s) (meaning s) (bare_returned kind w)
   returned-settles h.PackLeft w iw = packed-settles o.ShiftLeft

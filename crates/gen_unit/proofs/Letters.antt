@@ -73,7 +73,10 @@ counted-begin [] d = refl
 counted-begin (b ∷ bs) d = refl
 
 counted-end : (x : List ℕ) (k : ℕ) → ending (x ++ codes "_" ++ decimal k) ≡ 95
-counted-end x k = ending-append 0 x (codes "_" ++ decimal k) ∙ ending-digits 95 (decimal k) (decimal-digits k)
+counted-end x k =
+    ending-append 0 (x ++ codes "_") (decimal k)
+    ∙ ending-digits (ending_by 0 (x ++ codes "_")) (decimal k) (decimal-digits k)
+    ∙ ending-append 0 x (codes "_")
 
 candidate-alike : (x : List ℕ) (k : ℕ) → Alike x (candidate x k)
 candidate-alike x k =

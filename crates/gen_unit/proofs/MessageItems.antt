@@ -57,7 +57,9 @@ own-fields (x ∷ xs) h f e = (is-own x.field h.0 f.0 e.0, own-fields xs h.1 f.1
 
 own-locals : (xs : List (List ℕ)) → AllByRecursion (λ x. is_c_name x ≡ true) xs → AllByRecursion (λ x. is_reserved_local x ≡ false) xs → AllByRecursion (λ x. begins_large x ≡ false) xs → AllByRecursion IsOwn xs
 own-locals [] h f e = tt
-own-locals (x ∷ xs) h f e = (is-own x h.0 (either_false (is_reserved x) (is_among parameter_names x || is_among helper_names x) f.0).0 e.0, own-locals xs h.1 f.1 e.1)
+own-locals (x ∷ xs) h f e =
+    let first = either_false (is_reserved x || is_among parameter_names x) (is_among helper_names x) f.0 in
+    (is-own x h.0 (either_false (is_reserved x) (is_among parameter_names x) first.0).0 e.0, own-locals xs h.1 f.1 e.1)
 
 pub own-names : (ns : List MessageNames) → AllByRecursion (λ x. is_c_name x ≡ true) (flat_map file_names_of_message ns) → AllByRecursion (λ x. is_reserved x ≡ false) (flat_map file_names_of_message ns)
     → AllByRecursion (λ n. AreApart is_reserved (field_names n)) ns → AllByRecursion (λ n. AreApart is_reserved_local (local_names n)) ns → AllByRecursion HasLetters ns → AllByRecursion HasOwnNames ns
