@@ -2,3 +2,4 @@
 pub mod CalledHelpers
 pub mod UnitItems
 pub mod ItemNames
+pub mod UnitPacks

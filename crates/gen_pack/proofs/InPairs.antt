@@ -9,17 +9,19 @@ use Rattle.name_rules.specs.declared.table.SignalNames.{SignalNames}
 use Rattle.c_tree.specs.BareStatement.{Action}
 use Rattle.gen_pack.specs.Parts.{Part, part, parts_from}
 
-module _ {A B C : Type 0} (put : A × B → List C) where
-  -- what the first so many pairs put
-  abbrev pub put_by : List A → List B → ℕ → List C
-  put_by xs ys i = flat_map put (take i (zip xs ys))
-
-  take-pair : (xs : List A) (ys : List B) (i : ℕ) (x : A) (y : B) → i < length xs → i < length ys → x ≡ get_or xs i x → y ≡ get_or ys i y
+module _ {A B : Type 0} where
+  -- one pair more is taken
+  pub take-pair : (xs : List A) (ys : List B) (i : ℕ) (x : A) (y : B) → i < length xs → i < length ys → x ≡ get_or xs i x → y ≡ get_or ys i y
       → take (i + 1) (zip xs ys) ≡ take i (zip xs ys) ++ (x, y) ∷ []
   take-pair xs ys i x y a b e f =
       let inside : i < length (zip xs ys) = omega (arith, length-zip xs ys) in
       take_more (zip xs ys) i (x, y) inside
       ∙ ap (λ (p : A × B). take i (zip xs ys) ++ p ∷ []) (get_or-zip xs ys i (x, y) a b ∙ (λ j. (sym e j, sym f j)))
+
+module _ {A B C : Type 0} (put : A × B → List C) where
+  -- what the first so many pairs put
+  abbrev pub put_by : List A → List B → ℕ → List C
+  put_by xs ys i = flat_map put (take i (zip xs ys))
 
   put-more : (ps : List (A × B)) (p : A × B) → flat_map put (ps ++ p ∷ []) ≡ flat_map put ps ++ put p
   put-more ps p = flat_map-append put ps (p ∷ []) ∙ ap (λ (r : List C). flat_map put ps ++ r) (append-nil (put p))

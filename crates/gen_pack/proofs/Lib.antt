@@ -1,7 +1,7 @@
 -- What is proved of them.
 pub mod Members
-mod InPairs
-mod Numbers
+pub mod InPairs
+pub mod Numbers
 mod SegmentBits
 pub mod Segments
 pub mod OwnLocals

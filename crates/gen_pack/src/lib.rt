@@ -26,4 +26,5 @@ mod moves;
 mod nodes;
 mod puts;
 
-pub use function::pack_tree;
+pub use function::{pack_prototype, pack_tree};
+pub use moves::pack_kind;

@@ -6,6 +6,7 @@ ghost use Rattle.gen_pack.specs.SegmentMove as spec;
 use bit_layout::Segment;
 use shift_helpers::HelperKind;
 
+/// Which helper moves a segment into its byte: up to a higher bit, or the same one, the left one.
 pub fn pack_kind(segment: Segment) -> HelperKind
     ensures { result ≡ spec.pack_kind segment }
 {

@@ -40,7 +40,7 @@ module _ (env : Becomes) (meaning : Meaning) (known : KnowsHeaders env meaning) 
   settle-both (x ∷ xs) ys h k = (h.0, settle-both xs ys h.1 k)
 
   -- a name that stands for itself
-  alone : (n : List ℕ) → StandsAlone env meaning n → Settles env meaning (name n)
+  pub alone : (n : List ℕ) → StandsAlone env meaning n → Settles env meaning (name n)
   alone n h = subst (λ o. (env n ≡ tokens_of left (or_name n o)) × IsAtom o) (sym h.none) (h.stands, tt)
 
   aims : (n : List ℕ) → StandsAlone env meaning n → meaning n ≡ None

@@ -7,7 +7,7 @@ use Rattle.c_tree.specs.declared.item.Field.{Field}
 use Rattle.c_tree.specs.BareUnit.{BareField, bare_field}
 use Rattle.c_printed.specs.PrintedItem.{Field as Commented}
 use Rattle.c_printer.specs.BarePart.{next_comment, other_comments, with_comments}
-use Rattle.gen_unit.specs.StructFields.{field_of, fields_of, or_dummy}
+use Rattle.gen_pack.specs.StructFields.{field_of, fields_of, or_dummy}
 use Rattle.gen_unit.specs.HeaderStruct.{field_comment, commented, commented_fields, or_bare_dummy}
 
 abbrev comments_of : List Signal → List SignalNames → List (List ℕ)

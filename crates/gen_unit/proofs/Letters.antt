@@ -1,10 +1,10 @@
--- Macros begin with a capital and no other name does: a pick begins as what was wanted.
-use Rattle.std.proofs.Common.{◌≡◌, ℕ, suc, Bool, true, false, cond, eqb, List, [], ◌∷◌, ◌++◌, map, drop, length, is_some, Option, Some, None, refl, sym, ap, subst, ◌∙◌, arith, length-append}
-use Rattle.std.specs.Prelude.{codes}
-use Rattle.std.specs.List.{flat_map, AllByRecursion}
-use Rattle.std.specs.Char.{is_ascii_uppercase, is_ascii_lowercase, to_ascii_uppercase}
-use Rattle.std.specs.Fmt.{decimal}
-use Rattle.std.proofs.lemmas.Bool.{cond_both}
+-- Macros begin with a capital and no other name does: a pick begins as what was wanted. And it ends like it, or with a number.
+use Rattle.std.proofs.Common.{◌≡◌, ℕ, zero, suc, ◌/◌, ◌%◌, ◌<◌, Bool, true, false, cond, eqb, List, [], ◌∷◌, ◌++◌, map, drop, length, is_some, Option, Some, None, inl, inr, refl, sym, ap, subst, ◌∙◌, arith, length-append}
+use Rattle.std.specs.Prelude.{codes, if◌then◌else◌, ◌⊎◌}
+use Rattle.std.specs.List.{flat_map, list_all, AllByRecursion}
+use Rattle.std.specs.Char.{is_ascii_uppercase, is_ascii_lowercase, is_ascii_digit, to_ascii_uppercase}
+use Rattle.std.specs.Fmt.{decimal, digits, digits_onto, digit_glyph}
+use Rattle.std.proofs.lemmas.Bool.{cond_both, and_parts, and_from}
 use Rattle.std.proofs.lemmas.Bool.Decides.{nat_tests}
 use Rattle.can_model.specs.declared.database.Database.{Database}
 use Rattle.can_model.specs.declared.database.Message.{Message}
@@ -16,9 +16,9 @@ use Rattle.name_rules.specs.Identifier.{identifier_of}
 use Rattle.name_rules.specs.IsIdentifier.{IsIdentifier}
 use Rattle.name_rules.specs.Picks.{candidate, and_this, ArePicks}
 use Rattle.name_rules.specs.Pruning.{common_front, pruned}
-use Rattle.name_rules.specs.Reserved.{is_reserved}
+use Rattle.name_rules.specs.Reserved.{is_reserved, is_reserved_local}
 use Rattle.name_rules.specs.Wanted.{upper, joined, choice_identifiers, wanted_of_signal, wanted_of_message, wanted_names}
-use Rattle.name_rules.specs.Symbols.{one_or_none, file_names_of_signal, file_names_of_message, file_names, field_names, AllPairs, HasNamesOfSignal, HasNamesOfMessage, AreSymbols}
+use Rattle.name_rules.specs.Symbols.{one_or_none, file_names_of_signal, file_names_of_message, file_names, field_names, local_names, fields_with_local, AllPairs, HasNamesOfSignal, HasNamesOfMessage, AreSymbols}
 use Rattle.name_rules.proofs.Shape.{identifier_of-IsIdentifier}
 use Rattle.name_rules.proofs.NamesApart.{joined-identifier, identifier-bytes}
 
@@ -28,22 +28,63 @@ begins_large (b ∷ bs) = is_ascii_uppercase b
 
 -- ---- picks
 
-abbrev Alike : List ℕ → List ℕ → Type 0
-Alike x y = begins_large x ≡ begins_large y
+-- the last byte that is no digit, or this where there is none
+abbrev pub ending_by : ℕ → List ℕ → ℕ
+ending_by last [] = last
+ending_by last (b ∷ bs) = ending_by (if is_ascii_digit b then last else b) bs
 
-counted-alike : (x d : List ℕ) → begins_large (x ++ codes "_" ++ d) ≡ begins_large x
-counted-alike [] d = refl
-counted-alike (b ∷ bs) d = refl
+abbrev pub ending : List ℕ → ℕ
+ending x = ending_by 0 x
 
-candidate-alike : (x : List ℕ) (k : ℕ) → begins_large (candidate x k) ≡ begins_large x
+-- it ends like this word, or with a number behind `_`
+abbrev pub Ends : ℕ → ℕ → Type 0
+Ends wanted end = (end ≡ wanted) ⊎ (end ≡ 95)
+
+pub record Alike (x y : List ℕ) : Type 0 where
+  pub begin : begins_large x ≡ begins_large y
+  pub end : Ends (ending x) (ending y)
+
+pub ending-append : (last : ℕ) (x y : List ℕ) → ending_by last (x ++ y) ≡ ending_by (ending_by last x) y
+ending-append last [] y = refl
+ending-append last (b ∷ bs) y = ending-append (if is_ascii_digit b then last else b) bs y
+
+ending-digits : (last : ℕ) (ds : List ℕ) → list_all is_ascii_digit ds ≡ true → ending_by last ds ≡ last
+ending-digits last [] h = refl
+ending-digits last (d ∷ ds) h =
+    let both = and_parts (is_ascii_digit d) (list_all is_ascii_digit ds) h in
+    ap (λ (b : Bool). ending_by (if b then last else d) ds) both.0 ∙ ending-digits last ds both.1
+
+digit : (d : ℕ) → d < 10 → is_ascii_digit (digit_glyph false d) ≡ true
+digit d h = grind (arith, nat_tests)
+
+digits-onto : (k n : ℕ) (acc : List ℕ) → list_all is_ascii_digit acc ≡ true → list_all is_ascii_digit (digits_onto k 10 false n acc) ≡ true
+digits-onto zero n acc h = h
+digits-onto (suc k) n acc h =
+    let more : list_all is_ascii_digit (digit_glyph false (n % 10) ∷ acc) ≡ true = and_from _ _ (digit (n % 10) (omega arith)) h in
+    cond_both (eqb (n / 10) 0) (digit_glyph false (n % 10) ∷ acc) (digits_onto k 10 false (n / 10) (digit_glyph false (n % 10) ∷ acc)) (λ (bs : List ℕ). list_all is_ascii_digit bs ≡ true)
+    (λ e. more) (λ e. digits-onto k (n / 10) (digit_glyph false (n % 10) ∷ acc) more)
+
+decimal-digits : (n : ℕ) → list_all is_ascii_digit (decimal n) ≡ true
+unfolding digits
+decimal-digits n = digits-onto 64 n [] refl
+
+counted-begin : (x d : List ℕ) → begins_large x ≡ begins_large (x ++ codes "_" ++ d)
+counted-begin [] d = refl
+counted-begin (b ∷ bs) d = refl
+
+counted-end : (x : List ℕ) (k : ℕ) → ending (x ++ codes "_" ++ decimal k) ≡ 95
+counted-end x k = ending-append 0 x (codes "_" ++ decimal k) ∙ ending-digits 95 (decimal k) (decimal-digits k)
+
+candidate-alike : (x : List ℕ) (k : ℕ) → Alike x (candidate x k)
 candidate-alike x k =
-    cond_both (eqb k 1) x (x ++ codes "_" ++ decimal k) (λ (y : List ℕ). begins_large y ≡ begins_large x) (λ e. refl) (λ e. counted-alike x (decimal k))
+    cond_both (eqb k 1) x (x ++ codes "_" ++ decimal k) (Alike x) (λ e. record { begin = refl; end = inl refl })
+    (λ e. record { begin = counted-begin x (decimal k); end = inr (counted-end x k) })
 
 picks-alike : (is_taken : List ℕ → Bool) (xs ys : List (List ℕ)) → ArePicks is_taken xs ys → AllPairs Alike xs ys
 picks-alike is_taken [] ys h = h
 picks-alike is_taken (x ∷ xs) [] h = absurd h
 picks-alike is_taken (x ∷ xs) (y ∷ ys) h =
-    (sym (ap begins_large h.0.name ∙ candidate-alike x h.0.count), picks-alike (and_this is_taken y) xs ys h.1)
+    (subst (Alike x) (sym h.0.name) (candidate-alike x h.0.count), picks-alike (and_this is_taken y) xs ys h.1)
 
 -- behind as many names there are the others
 pairs-behind : (xs ys xs' ys' : List (List ℕ)) → length xs ≡ length ys → AllPairs Alike (xs ++ xs') (ys ++ ys') → AllPairs Alike xs' ys'
@@ -108,7 +149,9 @@ pub record HasLetters (n : MessageNames) : Type 0 where
   pub extended : begins_large n.extended ≡ true
   pub tag : begins_large n.tag ≡ false
   pub pack : begins_large n.pack ≡ false
+  pub pack_end : Ends 107 (ending n.pack)
   pub fields : AllByRecursion (λ x. begins_large x ≡ false) (field_names n)
+  pub locals : AllByRecursion (λ x. begins_large x ≡ false) (local_names n)
 
 -- behind the name of a cycle, where there is one
 behind-cycle : (c : Option ℕ) (d : Option (List ℕ)) (w : List ℕ) (t s r t' s' r' : List (List ℕ)) → is_some d ≡ is_some c
@@ -121,7 +164,24 @@ behind-cycle None None w t s r t' s' r' e h = h
 fields-small : (ss : List Signal) (ys : List (List ℕ)) → AllPairs Alike (map (λ s. identifier_of s.name) ss) ys → AllByRecursion (λ y. begins_large y ≡ false) ys
 fields-small [] ys h = subst (λ (zs : List (List ℕ)). AllByRecursion (λ y. begins_large y ≡ false) zs) (sym h) tt
 fields-small (s ∷ ss) [] h = absurd h
-fields-small (s ∷ ss) (y ∷ ys) h = (sym h.0 ∙ identifier-small (identifier_of s.name) (identifier_of-IsIdentifier s.name), fields-small ss ys h.1)
+fields-small (s ∷ ss) (y ∷ ys) h = (sym h.0.begin ∙ identifier-small (identifier_of s.name) (identifier_of-IsIdentifier s.name), fields-small ss ys h.1)
+
+-- what is picked where these are wanted begins with no capital either
+small-picks : (xs ys : List (List ℕ)) → AllPairs Alike xs ys → AllByRecursion (λ x. begins_large x ≡ false) xs → AllByRecursion (λ y. begins_large y ≡ false) ys
+small-picks [] ys h k = subst (λ (zs : List (List ℕ)). AllByRecursion (λ y. begins_large y ≡ false) zs) (sym h) tt
+small-picks (x ∷ xs) [] h k = absurd h
+small-picks (x ∷ xs) (y ∷ ys) h k = (sym h.0.begin ∙ k.0, small-picks xs ys h.1 k.1)
+
+with-local-small : (ns : List SignalNames) → AllByRecursion (λ x. begins_large x ≡ false) (map (λ s. s.field) ns)
+    → AllByRecursion (λ x. begins_large x ≡ false) (flat_map (λ s. if is_some s.local then s.field ∷ [] else []) ns)
+with-local-small [] h = tt
+with-local-small (n ∷ ns) h =
+    let rest = with-local-small ns h.1 in
+    cond_both (is_some n.local) (n.field ∷ []) [] (λ (xs : List (List ℕ)). AllByRecursion (λ x. begins_large x ≡ false) (xs ++ flat_map (λ s. if is_some s.local then s.field ∷ [] else []) ns)) (λ e. (h.0, rest)) (λ e. rest)
+
+-- a name that is wanted with this behind it
+wanted-end : (x end : List ℕ) (last : ℕ) → ((first : ℕ) → ending_by first end ≡ last) → ending (x ++ end) ≡ last
+wanted-end x end last h = ending-append 0 x end ∙ h (ending_by 0 x)
 
 module _ (name : List ℕ) (prune : Bool) (named : IsIdentifier name) where
   message-letters : (m : Message) (n : MessageNames) (ws zs : List (List ℕ)) → HasNamesOfMessage m n
@@ -133,14 +193,17 @@ module _ (name : List ℕ) (prune : Bool) (named : IsIdentifier name) where
       let names_of_signals : List (List ℕ) = flat_map file_names_of_signal n.signals in
       let after = behind-cycle m.cycle n.cycle (upper front ++ codes "_CYCLE_TIME_MS")
       ((front ++ codes "_t") ∷ (front ++ codes "_pack") ∷ (front ++ codes "_unpack") ∷ (front ++ codes "_init") ∷ []) of_signals ws
-      (n.tag ∷ n.pack ∷ n.unpack ∷ n.init ∷ []) names_of_signals zs h.cycle pairs.1.1.1 in (
+      (n.tag ∷ n.pack ∷ n.unpack ∷ n.init ∷ []) names_of_signals zs h.cycle pairs.1.1.1 in
+      let fields = fields-small m.signals (field_names n) (picks-alike is_reserved (map (λ s. identifier_of s.name) m.signals) (field_names n) h.fields) in (
         record {
-          frame_id = sym pairs.0 ∙ large front (codes "_FRAME_ID") own;
-          length = sym pairs.1.0 ∙ large front (codes "_LENGTH") own;
-          extended = sym pairs.1.1.0 ∙ large front (codes "_IS_EXTENDED") own;
-          tag = sym after.0 ∙ small front (codes "_t") own;
-          pack = sym after.1.0 ∙ small front (codes "_pack") own;
-          fields = fields-small m.signals (field_names n) (picks-alike is_reserved (map (λ s. identifier_of s.name) m.signals) (field_names n) h.fields);
+          frame_id = sym pairs.0.begin ∙ large front (codes "_FRAME_ID") own;
+          length = sym pairs.1.0.begin ∙ large front (codes "_LENGTH") own;
+          extended = sym pairs.1.1.0.begin ∙ large front (codes "_IS_EXTENDED") own;
+          tag = sym after.0.begin ∙ small front (codes "_t") own;
+          pack = sym after.1.0.begin ∙ small front (codes "_pack") own;
+          pack_end = subst (λ (e : ℕ). Ends e (ending n.pack)) (wanted-end front (codes "_pack") 107 (λ first. refl)) after.1.0.end;
+          fields = fields;
+          locals = small-picks (fields_with_local n) (local_names n) (picks-alike is_reserved_local (fields_with_local n) (local_names n) h.locals) (with-local-small n.signals fields);
         },
         pairs-behind of_signals names_of_signals ws zs (signals-length prune front m.signals n.signals h.signals) after.1.1.1.1,
       )
@@ -162,6 +225,6 @@ pub symbols-letters : (db : Database) (name : List ℕ) (prune : Bool) (t : Symb
 symbols-letters db name prune t named h =
     let pairs = picks-alike is_reserved (wanted_names name prune db) (file_names t) h.file in
     record {
-      guard = sym pairs.0 ∙ large name (codes "_H") named;
+      guard = sym pairs.0.begin ∙ large name (codes "_H") named;
       messages = messages-letters name prune named db.messages t.messages h.messages pairs.1;
     }

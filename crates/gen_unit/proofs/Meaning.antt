@@ -1,4 +1,4 @@
--- The header declares its messages: its parts may be printed, and what is printed reads back.
+-- The header's parts may be printed, and leave its items and its macros.
 use Rattle.std.proofs.Common.{◌≡◌, ℕ, true, false, List, [], ◌∷◌, ◌++◌, map, Some, None, refl, sym, ap, subst, ◌∙◌, arith, length-append}
 use Rattle.std.specs.Prelude.{codes}
 use Rattle.std.specs.List.{AllByRecursion, flat_map, zip}
@@ -23,13 +23,13 @@ use Rattle.c_printed.specs.PrintableUnit.{IsBeside, Balanced, IsHeaderAt}
 use Rattle.c_printed.specs.Reread.{header_items, macro_tokens}
 use Rattle.c_printed.specs.Law.{ReadAsUnit}
 use Rattle.c_recut.proofs.PairLaw.{header-reads}
-use Rattle.gen_unit.specs.Header.{error_name, number, all_message_parts, header_parts, header_text, header_name}
+use Rattle.gen_pack.specs.PackTree.{error_name}
+use Rattle.gen_unit.specs.Header.{number, all_message_parts, header_parts, header_name}
 use Rattle.gen_unit.specs.Macros.{Macro, constants_of, macros_of}
-use Rattle.gen_unit.specs.HeaderMeaning.{including, DeclaresMessages}
-use Rattle.gen_unit.specs.Items.{message_items, items_of}
+use Rattle.gen_items.specs.UnitItems.{message_items, declared_items}
 use Rattle.gen_unit.specs.Small.{AreSmall}
 use Rattle.gen_unit.proofs.Letters.{AllHaveLetters}
-use Rattle.gen_unit.proofs.OwnNames.{GiveTypes, three-give}
+use Rattle.gen_unit.proofs.OwnNames.{GiveTypes}
 use Rattle.gen_unit.proofs.MessageItems.{own-names}
 use Rattle.gen_unit.proofs.Names.{all_macros, guard-is_free, macros-are_own}
 use Rattle.gen_unit.proofs.NewMacros.{Prints, front, knowing, all_items, with_includes, prints-header}
@@ -93,11 +93,11 @@ at-all : (hs : List Header) (ms : List Message) (t : SymbolTable) → GiveTypes 
     → Prints (knowing hs) (header_parts ms t) (all_items ms t.messages) (front t.guard ++ all_macros ms t.messages)
 at-all hs ms t types small names =
     let file = names.apart.file in
-    let own = own-names t.messages file.words.1 file.free.1 names.apart.fields names.letters.messages in
+    let own = own-names t.messages file.words.1 file.free.1 names.apart.fields names.apart.locals names.letters.messages in
     prints-header hs ms t types names.letters own small (guard-is_free t file) (macros-are_own ms t file)
 
 pub at-headers : (hs : List Header) (ms : List Message) (t : SymbolTable) → GiveTypes (with_includes hs) → AreSmall ms → HasItsNames t
-    → Prints (knowing hs) (header_parts ms t) (items_of ms t) (front t.guard ++ all_macros ms t.messages)
+    → Prints (knowing hs) (header_parts ms t) (declared_items (zip ms t.messages)) (front t.guard ++ all_macros ms t.messages)
 at-headers hs ms t types small names =
     subst (λ (is : List BareItem). Prints (knowing hs) (header_parts ms t) is (front t.guard ++ all_macros ms t.messages)) (all-items-are ms t.messages) (at-all hs ms t types small names)
 
@@ -105,11 +105,3 @@ pub header-may-be-printed : (hs : List Header) (ms : List Message) (t : SymbolTa
 header-may-be-printed hs ms t types small names =
     let x = at-headers hs ms t types small names in
     record { right = x.right; balanced = messages-balanced ms t.messages }
-
-pub header-declares : (name : List ℕ) (ms : List Message) (t : SymbolTable) → IsIdentifier name → AreSmall ms → HasItsNames t → DeclaresMessages name ms t (header_text ms t)
-header-declares name ms t h small names =
-    let x = at-headers [] ms t three-give small names in
-    let within : AllByRecursion ItemWithin (header_items (header_parts ms t) nothing_known) = subst (λ is. AllByRecursion ItemWithin is) (sym x.items_are) (items-are-within (zip ms t.messages)) in
-    let reads = header-reads (header_name name) (header_parts ms t) (name-beside name h) (header-may-be-printed [] ms t three-give small names) within in
-    subst (λ is. ReadAsUnit (header_name name) (header_text ms t) (including name) is (macros_of ms t)) x.items_are
-    (subst (λ ls. ReadAsUnit (header_name name) (header_text ms t) (including name) (header_items (header_parts ms t) nothing_known) ls) (ap (map macro_tokens) x.macros ∙ macros-are ms t) reads)

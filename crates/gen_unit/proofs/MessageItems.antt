@@ -1,13 +1,13 @@
 -- A message's struct and prototype may be printed, where its names are its own.
-use Rattle.std.proofs.Common.{◌≡◌, ℕ, Bool, true, false, cond, List, [], ◌∷◌, ◌++◌, map, None, refl, ap, ◌∙◌}
-use Rattle.std.specs.Prelude.{nat_le}
+use Rattle.std.proofs.Common.{◌≡◌, ℕ, Bool, true, false, ◌||◌, List, [], ◌∷◌, ◌++◌, map, None, refl, ap, ◌∙◌}
+use Rattle.std.specs.Prelude.{nat_le, codes}
 use Rattle.std.specs.List.{AllByRecursion, flat_map}
 use Rattle.can_model.specs.declared.database.Signal.{Signal}
 use Rattle.can_model.specs.RawValue.{field_bits}
 use Rattle.name_rules.specs.declared.table.MessageNames.{MessageNames}
 use Rattle.name_rules.specs.declared.table.SignalNames.{SignalNames}
-use Rattle.name_rules.specs.Reserved.{keywords, given_names, sized_types, is_reserved}
-use Rattle.name_rules.specs.Symbols.{one_or_none, file_names_of_signal, file_names_of_message, field_names}
+use Rattle.name_rules.specs.Reserved.{keywords, given_names, sized_types, parameter_names, helper_names, is_among, is_reserved, is_reserved_local}
+use Rattle.name_rules.specs.Symbols.{one_or_none, file_names_of_signal, file_names_of_message, field_names, local_names}
 use Rattle.name_rules.specs.Names.{is_c_name, AreApart}
 use Rattle.c_tree.specs.BareUnit.{BareField, struct, function}
 use Rattle.c_printed.specs.PrintedItem.{Field}
@@ -16,21 +16,24 @@ use Rattle.c_printed.specs.Printable.{IsWidth, w8, w16, w32, w64}
 use Rattle.c_printed.specs.PrintableItem.{IsField, IsSome, IsHead}
 use Rattle.c_printed.specs.Settled.{NamedStands, SettlesItem}
 use Rattle.c_printed.specs.State.{State, becomes, meaning}
-use Rattle.gen_unit.specs.StructFields.{fields_of, dummy_name, dummy, or_dummy, struct_fields}
-use Rattle.gen_unit.specs.StructFields as fields
-use Rattle.gen_unit.specs.PackHead.{buffer, source, size, pack_head}
+use Rattle.gen_pack.specs.StructFields.{fields_of, dummy, or_dummy, struct_fields}
+use Rattle.gen_pack.specs.StructFields as fields
+use Rattle.gen_pack.specs.PackTree.{buffer, source, size, pack_head}
 use Rattle.gen_unit.specs.HeaderStruct.{about_signal, commented_fields, or_bare_dummy}
+use Rattle.gen_printed.proofs.Settling.{printed-width}
 use Rattle.gen_unit.proofs.Letters.{begins_large, HasLetters}
 use Rattle.gen_unit.proofs.Comments.{shown}
+use Rattle.gen_unit.proofs.Names.{either_false}
 use Rattle.gen_unit.proofs.OwnNames.{IsOwn, is-own, Knows, name-stands, exact-stands, size-stands, int-stands}
 
 -- ---- names
 
--- the struct, its fields and the pack function
+-- the struct, its fields, the pack function and its locals
 pub record HasOwnNames (n : MessageNames) : Type 0 where
   pub tag : IsOwn n.tag
   pub pack : IsOwn n.pack
   pub fields : AllByRecursion (λ (x : SignalNames). IsOwn x.field) n.signals
+  pub locals : AllByRecursion IsOwn (local_names n)
 
 module _ (P : List ℕ → Type 0) where
   both-parts : (xs ys : List (List ℕ)) → AllByRecursion P (xs ++ ys) → AllByRecursion P xs × AllByRecursion P ys
@@ -52,51 +55,47 @@ own-fields : (xs : List SignalNames) → AllByRecursion (λ x. is_c_name x ≡ t
 own-fields [] h f e = tt
 own-fields (x ∷ xs) h f e = (is-own x.field h.0 f.0 e.0, own-fields xs h.1 f.1 e.1)
 
+own-locals : (xs : List (List ℕ)) → AllByRecursion (λ x. is_c_name x ≡ true) xs → AllByRecursion (λ x. is_reserved_local x ≡ false) xs → AllByRecursion (λ x. begins_large x ≡ false) xs → AllByRecursion IsOwn xs
+own-locals [] h f e = tt
+own-locals (x ∷ xs) h f e = (is-own x h.0 (either_false (is_reserved x) (is_among parameter_names x || is_among helper_names x) f.0).0 e.0, own-locals xs h.1 f.1 e.1)
+
 pub own-names : (ns : List MessageNames) → AllByRecursion (λ x. is_c_name x ≡ true) (flat_map file_names_of_message ns) → AllByRecursion (λ x. is_reserved x ≡ false) (flat_map file_names_of_message ns)
-    → AllByRecursion (λ n. AreApart is_reserved (field_names n)) ns → AllByRecursion HasLetters ns → AllByRecursion HasOwnNames ns
-own-names [] words free apart letters = tt
-own-names (n ∷ ns) words free apart letters =
+    → AllByRecursion (λ n. AreApart is_reserved (field_names n)) ns → AllByRecursion (λ n. AreApart is_reserved_local (local_names n)) ns → AllByRecursion HasLetters ns → AllByRecursion HasOwnNames ns
+own-names [] words free apart locals letters = tt
+own-names (n ∷ ns) words free apart locals letters =
     let w = tag-pack (λ x. is_c_name x ≡ true) n ns words in
     let f = tag-pack (λ x. is_reserved x ≡ false) n ns free in (
       record {
         tag = is-own n.tag w.0.0 f.0.0 letters.0.tag;
         pack = is-own n.pack w.0.1 f.0.1 letters.0.pack;
         fields = own-fields n.signals apart.0.words apart.0.free letters.0.fields;
+        locals = own-locals (local_names n) locals.0.words locals.0.free letters.0.locals;
       },
-      own-names ns w.1 f.1 apart.1 letters.1,
+      own-names ns w.1 f.1 apart.1 locals.1 letters.1,
     )
 
-dummy-own : IsOwn dummy_name
-unfolding keywords given_names sized_types dummy_name
-dummy-own = is-own dummy_name refl refl refl
+dummy-own : IsOwn (codes "dummy")
+unfolding keywords given_names sized_types
+dummy-own = is-own (codes "dummy") refl refl refl
 
-buffer-own : IsOwn buffer
+pub buffer-own : IsOwn buffer
 unfolding keywords given_names sized_types buffer
 buffer-own = is-own buffer refl refl refl
 
-source-own : IsOwn source
+pub source-own : IsOwn source
 unfolding keywords given_names sized_types source
 source-own = is-own source refl refl refl
 
-size-own : IsOwn size
+pub size-own : IsOwn size
 unfolding keywords given_names sized_types size
 size-own = is-own size refl refl refl
 
 -- ---- the struct
 
-width-by : (a b c : Bool) → IsWidth (cond a 8 (cond b 16 (cond c 32 64)))
-width-by true b c = w8
-width-by false true c = w16
-width-by false false true = w32
-width-by false false false = w64
-
-width-of : (length : ℕ) → IsWidth (field_bits length)
-width-of length = width-by (nat_le length 8) (nat_le length 16) (nat_le length 32)
-
 fields-right : (ss : List Signal) (ns : List SignalNames) → AllByRecursion (λ (x : SignalNames). IsOwn x.field) ns → AllByRecursion IsField (commented_fields ss ns)
 fields-right [] ns own = tt
 fields-right (s ∷ ss) [] own = tt
-fields-right (s ∷ ss) (n ∷ ns) own = (record { about = shown (about_signal s); kind = width-of s.length; name = own.0.free }, fields-right ss ns own.1)
+fields-right (s ∷ ss) (n ∷ ns) own = (record { about = shown (about_signal s); kind = printed-width s.length; name = own.0.free }, fields-right ss ns own.1)
 
 dummy-right : (fs : List Field) → AllByRecursion IsField fs → AllByRecursion IsField (or_bare_dummy fs)
 dummy-right [] h = (record { about = tt; kind = w8; name = dummy-own.free }, tt)
@@ -122,10 +121,10 @@ module _ (s : State) (k : Knows s) where
   fields-stand : (ss : List Signal) (ns : List SignalNames) → AllByRecursion (λ (x : SignalNames). IsOwn x.field) ns → AllByRecursion (NamedStands (becomes s)) (map item.field_of (commented_fields ss ns))
   fields-stand [] ns own = tt
   fields-stand (x ∷ ss) [] own = tt
-  fields-stand (x ∷ ss) (n ∷ ns) own = ((exact-stands s k (field_bits x.length) x.signed (width-of x.length), name-stands s k n.field own.0), fields-stand ss ns own.1)
+  fields-stand (x ∷ ss) (n ∷ ns) own = ((exact-stands s k (field_bits x.length) x.signed (printed-width x.length), name-stands s k n.field own.0), fields-stand ss ns own.1)
 
   dummy-stands : (fs : List Field) → AllByRecursion (NamedStands (becomes s)) (map item.field_of fs) → AllByRecursion (NamedStands (becomes s)) (map item.field_of (or_bare_dummy fs))
-  dummy-stands [] h = ((exact-stands s k 8 false w8, name-stands s k dummy_name dummy-own), tt)
+  dummy-stands [] h = ((exact-stands s k 8 false w8, name-stands s k (codes "dummy") dummy-own), tt)
   dummy-stands (f ∷ fs) h = h
 
   -- ---- both in a text where this is known

@@ -19,7 +19,8 @@ use Rattle.c_text.specs.Characters.{is_letter, goes_on, Pass, IsName}
 use Rattle.c_tree.specs.Symbol.{keywords as keyword_table, keyword_in}
 use Rattle.c_printed.specs.Printable.{IsFree}
 use Rattle.c_printed.specs.State.{Macro}
-use Rattle.gen_unit.specs.Header.{error_name, number}
+use Rattle.gen_unit.specs.Header.{number}
+use Rattle.gen_pack.specs.PackTree.{error_name}
 use Rattle.c_tree.specs.BareExpression.{bracket}
 
 -- ---- names of C
@@ -110,7 +111,7 @@ both_true false b h = (refl, h)
 both_true true b h = absurd (let f : ◌≡◌ {A = Bool} false true = h in cc)
 
 -- a name that is none of two lists' is none of the second's
-none_behind : (x : List ℕ) (xs ys : List (List ℕ)) → list_any (bytes_eq x) (xs ++ ys) ≡ false → list_any (bytes_eq x) ys ≡ false
+pub none_behind : (x : List ℕ) (xs ys : List (List ℕ)) → list_any (bytes_eq x) (xs ++ ys) ≡ false → list_any (bytes_eq x) ys ≡ false
 none_behind x [] ys h = h
 none_behind x (y ∷ xs) ys h = none_behind x xs ys (either_false (bytes_eq x y) (list_any (bytes_eq x) (xs ++ ys)) h).1
 
@@ -125,7 +126,7 @@ none_among x (m ∷ ms) (n ∷ ns) h =
     let c = either_false (bytes_eq x n.extended) (list_any (bytes_eq x) others) b.1 in
     rw (a.0, b.0, c.0) (none_among x ms ns (none_behind x (other_names n) (rest_names ns) c.1))
 
-distinct_behind : (xs ys : List (List ℕ)) → are_distinct (xs ++ ys) ≡ true → are_distinct ys ≡ true
+pub distinct_behind : (xs ys : List (List ℕ)) → are_distinct (xs ++ ys) ≡ true → are_distinct ys ≡ true
 distinct_behind [] ys h = h
 distinct_behind (x ∷ xs) ys h = distinct_behind xs ys (both_true (list_any (bytes_eq x) (xs ++ ys)) (are_distinct (xs ++ ys)) h).1
 
@@ -144,7 +145,7 @@ macros_distinct (m ∷ ms) (n ∷ ns) h =
     rw (a.0, b.0, none n.frame_id b.1, c.0, none n.length c.1, none n.extended r.0) (macros_distinct ms ns (distinct_behind (other_names n) (rest_names ns) r.1))
 
 -- what is so of all names of the file is so of the macros'
-all_behind : (P : List ℕ → Type 0) (xs ys : List (List ℕ)) → AllByRecursion P (xs ++ ys) → AllByRecursion P ys
+pub all_behind : (P : List ℕ → Type 0) (xs ys : List (List ℕ)) → AllByRecursion P (xs ++ ys) → AllByRecursion P ys
 all_behind P [] ys h = h
 all_behind P (x ∷ xs) ys h = all_behind P xs ys h.1
 

@@ -17,12 +17,13 @@ use Rattle.c_printed.specs.PrintableItem.{IsShown}
 use Rattle.c_printed.specs.State.{Macro, State, header_named, listed, unless_known, with_macros, with_headers}
 use Rattle.c_printed.specs.PrintableUnit.{IsBody, IsSame, IsKnown, AllRight, no_header}
 use Rattle.c_printed.specs.Reread.{header_items, header_macros}
-use Rattle.gen_unit.specs.Header.{error_name, bool_header, size_header, integer_header, about, number, all_message_parts, include_parts, error_parts, header_parts}
+use Rattle.c_printed.proofs.UnitFits.{decimal-fits}
+use Rattle.gen_unit.specs.Header.{bool_header, size_header, integer_header, about, number, all_message_parts, include_parts, error_parts, header_parts}
 use Rattle.gen_unit.specs.Comments.{opening_text, shown_byte}
-use Rattle.gen_unit.specs.StructFields.{struct_fields}
-use Rattle.gen_unit.specs.PackHead.{pack_head}
+use Rattle.gen_pack.specs.StructFields.{struct_fields}
+use Rattle.gen_pack.specs.PackTree.{error_name, pack_head}
 use Rattle.gen_unit.specs.HeaderStruct.{struct_part}
-use Rattle.gen_unit.specs.Items.{message_items}
+use Rattle.gen_items.specs.UnitItems.{message_items}
 use Rattle.gen_unit.specs.Small.{AreSmall}
 use Rattle.gen_unit.proofs.Comments.{shown}
 use Rattle.gen_unit.proofs.Letters.{begins_large, HasLetters, AllHaveLetters}
@@ -101,9 +102,6 @@ none_more known n body (d ∷ ds) h k =
 
 -- ---- messages
 
-decimal-constant : (v : ℕ) (u : Bool) → v < 2 ^ 64 → IsConstant (record { value = v; base = 10; unsigned = u; longs = 0 })
-decimal-constant v u h = record { small = h; base = ten; longs = omega arith }
-
 bracket-body : (v base : ℕ) (u : Bool) → IsConstant (record { value = v; base = base; unsigned = u; longs = 0 }) → IsBody (Some (bracket (number v base u)))
 bracket-body v base u h = (h, tt)
 
@@ -142,8 +140,8 @@ prints-messages s (m ∷ ms) (n ∷ ns) k letters own small free apart new =
     let items = all_items ms ns in
     prints-comment s (map shown_byte (about m)) _ _ _ (shown (about m))
     (prints-define s n.frame_id id _ _ _ free.0 (record { small = small.0.id; base = sixteen; longs = omega arith }, tt) new.0
-    (prints-define one n.length size _ _ _ free.1.0 (decimal-constant m.length true small.0.length, tt) new1.0
-    (prints-define two n.extended flag (blank ∷ struct_part m n ∷ blank ∷ routine (pack_head n) None ∷ blank ∷ tail) (message_items m n ++ items) rest free.1.1.0 (decimal-constant (cond m.extended 1 0) false (flag-small m.extended), tt) new2.0
+    (prints-define one n.length size _ _ _ free.1.0 (decimal-fits m.length true small.0.length, tt) new1.0
+    (prints-define two n.extended flag (blank ∷ struct_part m n ∷ blank ∷ routine (pack_head n) None ∷ blank ∷ tail) (message_items m n ++ items) rest free.1.1.0 (decimal-fits (cond m.extended 1 0) false (flag-small m.extended), tt) new2.0
     (prints-blank three _ _ _
     (prints-struct three m n (blank ∷ routine (pack_head n) None ∷ blank ∷ tail) (function (pack_head n) None ∷ items) rest known own.0
     (prints-blank three _ _ _
@@ -152,11 +150,11 @@ prints-messages s (m ∷ ms) (n ∷ ns) k letters own small free apart new =
 
 -- ---- the whole
 
-error-free : IsFree error_name
+pub error-free : IsFree error_name
 unfolding error_name keyword_in
 error-free = ((refl, (refl, (refl, (refl, (refl, (refl, tt)))))), refl)
 
-error-large : begins_large error_name ≡ true
+pub error-large : begins_large error_name ≡ true
 unfolding error_name
 error-large = refl
 
@@ -193,7 +191,7 @@ prints-header hs ms t types letters names small g own =
     let body = prints-messages s3 ms t.messages known letters.messages names small own.free own.distinct (none-in-front guard ds own.no_guard own.no_error) in
     let error : Prints s2 (error_parts ++ messages) is ((error_name, Some (number 22 10 false)) ∷ ds) =
     prints-ifndef s2 error_name _ _ _ error-free no_error
-    (prints-define s2 error_name (Some (number 22 10 false)) (end_if ∷ blank ∷ messages) is ds error-free (decimal-constant 22 false (omega arith), tt) no_error
+    (prints-define s2 error_name (Some (number 22 10 false)) (end_if ∷ blank ∷ messages) is ds error-free (decimal-fits 22 false (omega arith), tt) no_error
     (prints-end s3 (blank ∷ messages) is ds (prints-blank s3 messages is ds body))) in
     let includes : Prints s1 (include_parts ++ (error_parts ++ messages)) is ((error_name, Some (number 22 10 false)) ∷ ds) =
     prints-include s1 bool_header _ _ _ tt

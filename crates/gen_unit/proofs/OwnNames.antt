@@ -108,7 +108,7 @@ knows-more s n body k h = record { large = large-append s.macros ((n, body) ∷ 
 
 -- ---- names and types there
 
-no-macro : (x : List ℕ) (ms : List Macro) → begins_large x ≡ false → AreLarge ms → look_up x ms ≡ None
+pub no-macro : (x : List ℕ) (ms : List Macro) → begins_large x ≡ false → AreLarge ms → look_up x ms ≡ None
 no-macro x [] e h = refl
 no-macro x (m ∷ ms) e h =
     let apart : bytes_eq m.0 x ≡ false = false_from_ne_true (bytes_eq m.0 x) (λ g. both_ways (begins_large x) e (ap begins_large (sym ((bytes_eq-Decides m.0 x).0 g)) ∙ h.0)) in

@@ -8,12 +8,9 @@ use Rattle.c_tree.specs.BareExpression.{Tree, constant, bracket}
 use Rattle.c_printed.specs.PrintedUnit.{Part, blank, include, define, if_not_defined, end_if, routine, unit_text}
 use Rattle.gen_unit.specs.Comments.{opening_text, remark, after_blank}
 use Rattle.gen_unit.specs.HeaderStruct.{struct_part}
-use Rattle.gen_unit.specs.PackHead.{pack_head}
+use Rattle.gen_pack.specs.PackTree.{error_name, pack_head}
 
 -- ---- the words that stand in every header
-
-unfoldable pub error_name : List ℕ
-error_name = codes "EINVAL"
 
 unfoldable pub bool_header : List ℕ
 bool_header = codes "stdbool.h"

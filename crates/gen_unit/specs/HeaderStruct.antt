@@ -7,7 +7,7 @@ use Rattle.name_rules.specs.declared.table.SignalNames.{SignalNames}
 use Rattle.c_printed.specs.PrintedItem.{Field}
 use Rattle.c_printed.specs.PrintedUnit.{Part, structure}
 use Rattle.gen_unit.specs.Comments.{shown_byte, after_blank}
-use Rattle.gen_unit.specs.StructFields.{field_of, dummy}
+use Rattle.gen_pack.specs.StructFields.{field_of, dummy}
 
 -- what is said of a signal: its name, its unit in square brackets, and its comment
 abbrev pub about_signal : Signal → List ℕ

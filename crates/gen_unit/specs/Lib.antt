@@ -10,7 +10,3 @@ pub mod Parses
 pub mod Surface
 pub mod Macros
 pub mod Items
-pub mod StructFields
-pub mod PackHead
--- What a header means by itself.
-pub mod HeaderMeaning

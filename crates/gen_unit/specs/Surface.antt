@@ -1,5 +1,5 @@
 -- What a pair declares and defines: what a program that includes the header may name.
-use Rattle.std.specs.Prelude.{◌≡◌, ℕ, List, [], ◌∷◌, map, Some, None}
+use Rattle.std.specs.Prelude.{◌≡◌, ℕ, if◌then◌else◌, List, [], ◌∷◌, map, Some, None}
 use Rattle.can_model.specs.declared.database.Message.{Message}
 use Rattle.name_rules.specs.declared.table.SymbolTable.{SymbolTable}
 use Rattle.c_text.specs.declared.preprocessed.Preprocessed.{Preprocessed}
@@ -32,11 +32,16 @@ definitions_in (struct tag fields ∷ items) = definitions_in items
 definitions_in (function head None ∷ items) = definitions_in items
 definitions_in (function head (Some body) ∷ items) = (head, body) ∷ definitions_in items
 
+-- those that other units may name (6.2.2)
+abbrev pub not_static : List (BareHead × Actions) → List BareHead
+not_static [] = []
+not_static ((head, body) ∷ definitions) = if head.fixed then not_static definitions else head ∷ not_static definitions
+
 -- ---- those of a database
 
--- its macros, its structs and the functions that it declares are these and no other ones; none is defined yet
+-- its macros, its structs and the functions that it declares are these and no other ones, and each of these is defined once
 pub record HasSurface (messages : List Message) (names : SymbolTable) (left : Preprocessed) (unit : Whole) : Type 0 where
   pub macros : map macro_kinds left.macros ≡ macros_of messages names
   pub structs : structs_in (bare_unit unit) ≡ structs_of messages names
   pub prototypes : prototypes_in (bare_unit unit) ≡ functions_of messages names
-  pub definitions : definitions_in (bare_unit unit) ≡ []
+  pub definitions : not_static (definitions_in (bare_unit unit)) ≡ functions_of messages names

@@ -2,17 +2,18 @@
 ghost use Rattle.std.specs.Prelude.{◌≡◌, ◌++◌, ◌∷◌, [], IfOk, OnOk};
 ghost use Rattle.c_printer.specs.BarePart.{bare_parts};
 ghost use Rattle.gen_unit.specs.Header as header;
-ghost use Rattle.gen_unit.specs.Header.{about, macro_parts, declared_parts, message_parts, all_message_parts, error_name, opening_parts, include_parts, error_parts, header_parts};
+ghost use Rattle.gen_pack.specs.PackTree.{error_name};
+ghost use Rattle.gen_unit.specs.Header.{about, macro_parts, declared_parts, message_parts, all_message_parts, opening_parts, include_parts, error_parts, header_parts};
 
 use crate::parts::{
-    number, put_blank, put_comment, put_constant, put_define, put_end_if, put_if_not_defined,
-    put_include, put_opening_comment,
+    number, put_blank, put_comment, put_constant, put_define, put_end_if, put_function,
+    put_if_not_defined, put_include, put_opening_comment,
 };
-use crate::prototypes::put_pack_prototype;
 use crate::structs::put_struct;
 use c_printer::{Part, PrintUnit};
 use can_model::Message;
 use cg_out::{List, Memory};
+use gen_pack::pack_prototype;
 use name_rules::{MessageNames, SymbolTable};
 use std::alloc::{AllocError, Global};
 
@@ -73,7 +74,7 @@ fn put_includes(alloc: Global, parts: &mut List<Part>) -> Result<(), Memory>
     put_blank(parts)
 }
 
-#[tactic(auto, unfolding(crate::specs::Header::error_name))]
+#[tactic(auto, unfolding(gen_pack::specs::PackTree::error_name))]
 fn error() -> &'static [u8]
     ensures { result.now ≡ error_name }
 {
@@ -141,7 +142,7 @@ fn put_declarations(
 {
     put_struct(alloc, parts, m, names)?;
     put_blank(parts)?;
-    put_pack_prototype(alloc, parts, names)?;
+    put_function(parts, pack_prototype(alloc, names)?)?;
     put_blank(parts)
 }
 

@@ -1,5 +1,5 @@
-//! The C text of a database: so far the header with the constants of its messages' frames, and the
-//! source with its includes.
+//! The C text of a database: a header with the macros, structs and prototypes of its messages, and
+//! a source with a pack function for each of them.
 //!
 //! ```text
 //! generate(alloc, b"can", &db, &names)   // #ifndef CAN_H .. #define CAN_PING_FRAME_ID (0x123u) .. #endif
@@ -8,9 +8,9 @@
 #![tactic(auto)]
 
 mod header_unit;
+mod helpers;
 mod parts;
 mod printing;
-mod prototypes;
 mod source_unit;
 mod structs;
 

@@ -2,20 +2,26 @@
 ghost use Rattle.std.specs.Prelude.{◌≡◌, ◌++◌, ◌∷◌, [], map, Some, IfOk, OnOk};
 ghost use Rattle.c_tree.specs.BareExpression.{bare_expression, bracket};
 ghost use Rattle.c_tree.specs.BareStatement.{bare_option};
+ghost use Rattle.c_tree.specs.BareUnit.{bare_item};
+ghost use Rattle.c_tree.specs.declared.item.Item.TheVariants.{Function as AFunction};
 ghost use Rattle.c_printed.specs.PrintedUnit as spec;
 ghost use Rattle.c_printer.specs.BarePart.{bare_part, bare_parts};
+ghost use Rattle.shift_helpers.specs.HelperTree as HelperTree;
+ghost use Rattle.gen_unit.specs.Source.{function_part};
 ghost use Rattle.gen_unit.specs.Comments.{opening_text, shown_byte, remark};
 ghost use Rattle.gen_unit.specs.Header.{constant_macro};
 ghost use Rattle.gen_unit.specs.Header as header;
 
 use c_printer::Part;
 use c_text::{Constant, Place};
-use c_tree::{Expr, ExprKind};
+use c_tree::{Expr, ExprKind, Function};
 use cg_out::{Boxed, List, Memory, Text};
 use std::alloc::{AllocError, Global};
 
 /// The place of a tree that no text has.
-pub fn nowhere() -> Place {
+pub fn nowhere() -> Place
+    ensures { result ≡ HelperTree.nowhere }
+{
     Place {
         header: false,
         line: 0,
@@ -75,6 +81,12 @@ pub fn put_comment(alloc: Global, parts: &mut List<Part>, words: &[u8]) -> Resul
 {
     let shown = shown_text(alloc, words)?;
     put(parts, Part::Comment(Text::copy_of(alloc, &shown)?))
+}
+
+pub fn put_function(parts: &mut List<Part>, function: Function) -> Result<(), Memory>
+    ensures { OnOk result (bare_parts parts.new ≡ bare_parts parts.old ++ function_part (bare_item (AFunction function))) }
+{
+    put(parts, Part::Function(function))
 }
 
 pub fn put_blank(parts: &mut List<Part>) -> Result<(), Memory>

@@ -1,5 +1,8 @@
 //! The two texts of a database.
 ghost use Rattle.std.specs.Prelude.{◌≡◌, IfOk};
+ghost use Rattle.std.specs.List.{AllByRecursion};
+ghost use Rattle.can_model.specs.Validity.{IsOfValidDatabase};
+ghost use Rattle.gen_pack.specs.Switches.{HasNoParent};
 ghost use Rattle.gen_unit.specs.NamedDatabase.{IsNamedDatabase};
 ghost use Rattle.gen_unit.specs.Faithful.{Faithful};
 ghost use Rattle.gen_unit.specs.Header.{header_text};
@@ -20,15 +23,18 @@ pub struct Pair {
     pub source: Vec<u8>,
 }
 
-/// The header and the source of the database of that name, by the names of the table: three macros
-/// for each message behind an include guard, and a source that has no functions yet.
+/// The header and the source of the database of that name, by the names of the table: in the header
+/// three macros, a struct and a prototype for each message, behind an include guard; in the source
+/// the helpers that are called, and a pack function for each message.
 pub fn generate(
     alloc: Global,
     name: &[u8],
     db: &Database,
     names: &SymbolTable,
 ) -> Result<Pair, Memory>
-    ensures texts { IfOk result (λ p. (p.header.items ≡ header_text db.now.messages names.now) × (p.source.items ≡ source_text name.now)) }
+    requires valid { AllByRecursion IsOfValidDatabase db.now.messages }
+    requires flat { AllByRecursion (λ m. AllByRecursion HasNoParent m.signals) db.now.messages }
+    ensures texts { IfOk result (λ p. (p.header.items ≡ header_text db.now.messages names.now) × (p.source.items ≡ source_text name.now db.now.messages names.now)) }
 
     // What the pair means as C, where the table is the database's.
     ensures faithful { IsNamedDatabase name.now db.now names.now
@@ -36,7 +42,7 @@ pub fn generate(
 {
     Ok(Pair {
         header: header(alloc, db.messages.items(), names)?,
-        source: source(alloc, name)?,
+        source: source(alloc, name, db.messages.items(), names)?,
     })
 }
 
@@ -49,10 +55,17 @@ fn header(alloc: Global, messages: &[Message], names: &SymbolTable) -> Result<Ve
     Ok(out)
 }
 
-fn source(alloc: Global, name: &[u8]) -> Result<Vec<u8>, Memory>
-    ensures { IfOk result (λ v. v.items ≡ source_text name.now) }
+fn source(
+    alloc: Global,
+    name: &[u8],
+    messages: &[Message],
+    names: &SymbolTable,
+) -> Result<Vec<u8>, Memory>
+    requires valid { AllByRecursion IsOfValidDatabase messages.now }
+    requires flat { AllByRecursion (λ m. AllByRecursion HasNoParent m.signals) messages.now }
+    ensures { IfOk result (λ v. v.items ≡ source_text name.now messages.now names.now) }
 {
-    let unit = source_unit(alloc, name)?;
+    let unit = source_unit(alloc, name, messages, names)?;
     let mut out = Vec::new(alloc);
     print(&unit, &mut out)?;
     Ok(out)

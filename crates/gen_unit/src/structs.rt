@@ -1,17 +1,16 @@
 //! The struct of a message (ISO/IEC 9899:1999, 6.7.2.1), each field behind a comment of its signal.
 ghost use Rattle.std.specs.Prelude.{◌≡◌, ◌++◌, ◌∷◌, [], map, IfOk, OnOk};
 ghost use Rattle.std.specs.List.{zip};
-ghost use Rattle.can_model.specs.RawValue.{field_bits};
 ghost use Rattle.c_tree.specs.BareUnit.{bare_field};
 ghost use Rattle.c_printer.specs.BarePart.{bare_parts};
-ghost use Rattle.gen_unit.specs.StructFields as spec;
+ghost use Rattle.gen_pack.specs.StructFields as spec;
 ghost use Rattle.gen_unit.specs.HeaderStruct.{about_signal, field_comment, struct_part};
 
 use crate::parts::{nowhere, put, shown_text};
 use c_printer::Part;
 use c_text::Spelled;
 use c_tree::{CType, Field, Struct};
-use can_model::{Message, Signal};
+use can_model::{Message, Signal, field_bits};
 use cg_out::{List, Memory, Text};
 use name_rules::{MessageNames, SignalNames};
 use std::alloc::{AllocError, Global};
@@ -64,7 +63,7 @@ fn field(alloc: Global, s: &Signal, names: &SignalNames) -> Result<Field, Memory
 {
     Ok(Field {
         kind: CType::Integer(Spelled::Exact {
-            width: width(s.length),
+            width: field_bits(s.length),
             signed: s.signed,
         }),
         name: Text::copy_of(alloc, names.field.bytes())?,
@@ -72,22 +71,6 @@ fn field(alloc: Global, s: &Signal, names: &SignalNames) -> Result<Field, Memory
     })
 }
 
-/// The least width of an exact-width type that holds so many bits.
-fn width(length: u32) -> u32
-    ensures { result ≡ field_bits length }
-{
-    if length <= 8 {
-        8
-    } else if length <= 16 {
-        16
-    } else if length <= 32 {
-        32
-    } else {
-        64
-    }
-}
-
-#[tactic(auto, unfolding(crate::specs::StructFields::dummy_name))]
 fn dummy(alloc: Global) -> Result<Field, Memory>
     ensures { IfOk result (λ f. bare_field f ≡ spec.dummy) }
 {

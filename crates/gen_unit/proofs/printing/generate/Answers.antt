@@ -12,6 +12,6 @@ returns-clause-faithful c = λ d.
     let ms = c.args.db.now.messages in
     let names = c.args.names.now in
     let header = c.in_ok-header.field-0.items in
-    let faithful = pair-is-faithful name c.args.db.now names d in
-    subst (λ (s : List ℕ). Faithful name ms names header s) (sym c.in_ok-source.ensures)
-    (subst (λ (h : List ℕ). Faithful name ms names h (source_text name)) (sym (c.in_ok-header.ensures ∙ ap (λ ms. header_text ms names) c.items.ensures)) faithful)
+    let faithful = pair-is-faithful name c.args.db.now names d c.requires.valid c.requires.flat in
+    subst (λ (s : List ℕ). Faithful name ms names header s) (sym (c.in_ok-source.ensures ∙ ap (λ ms. source_text name ms names) c.items.ensures))
+    (subst (λ (h : List ℕ). Faithful name ms names h (source_text name ms names)) (sym (c.in_ok-header.ensures ∙ ap (λ ms. header_text ms names) c.items.ensures)) faithful)

@@ -5,7 +5,7 @@ use Rattle.std.specs.Slice.Iter.{iter_rest}
 use Rattle.std.proofs.lemmas.List.{length_push}
 use Rattle.std.proofs.lemmas.Slice.Zip.{zip_turn, zip_end}
 use Rattle.c_tree.specs.BareUnit.{BareField, bare_field}
-use Rattle.gen_unit.specs.StructFields.{field_of}
+use Rattle.gen_pack.specs.StructFields.{field_of}
 use Rattle.gen_unit.proofs.InPairs.{all_pairs, map-last, mapped_more}
 use Rattle.gen_unit.proofs.CommentedFields.{fields_by_pairs}
 use Rattle.gen_unit.proofs.structs.fields.Goals as goal

@@ -1,7 +1,7 @@
 use Rattle.std.proofs.Common.{◌≡◌, length, take, map}
 use Rattle.std.specs.List.{zip}
 use Rattle.c_tree.specs.BareUnit.{bare_field}
-use Rattle.gen_unit.specs.StructFields.{field_of}
+use Rattle.gen_pack.specs.StructFields.{field_of}
 use Rattle.gen_unit.proofs.structs.fields.Given as goal
 
 abbrev pub invariant-loop-s : goal.invariant-loop-s
