@@ -1,5 +1,5 @@
 -- The body of a message's pack function has no fault of types where its struct and its helpers are declared.
-use Rattle.std.proofs.Common.{◌≡◌, ℕ, ◌^◌, suc, ◌<◌, ◌≤◌, Bool, true, false, List, [], ◌∷◌, ◌++◌, map, Option, Some, None, inl, inr, refl, sym, ap, subst, ◌∙◌, arith}
+use Rattle.std.proofs.Common.{◌≡◌, ℕ, ◌^◌, suc, ◌<◌, ◌≤◌, Bool, true, false, List, [], ◌∷◌, ◌++◌, map, Option, Some, None, inl, inr, refl, sym, subst, arith}
 use Rattle.std.specs.Prelude.{◌==◌, if◌then◌else◌, not, bytes_eq}
 use Rattle.std.specs.List.{AllByRecursion, list_any, flat_map}
 use Rattle.can_model.specs.declared.database.Message.{Message}
@@ -41,11 +41,11 @@ use Rattle.shift_helpers.specs.HelperResult.{IsWidth}
 use Rattle.shift_helpers.specs.HelperTree.{helper_name}
 use Rattle.gen_pack.specs.SegmentMove.{width_of, pack_kind}
 use Rattle.gen_pack.specs.StructFields.{field_type, fields_of, or_dummy, struct_fields}
-use Rattle.gen_pack.specs.Parts.{Part, part, parts_from, parts_of}
+use Rattle.gen_pack.specs.Parts.{Part, parts_from, parts_of}
 use Rattle.gen_pack.specs.Named.{IsNamed}
 use Rattle.gen_pack.specs.Switches.{HasNoParent}
-use Rattle.gen_pack.specs.PackTree.{buffer, source, size, number, unsigned, declared, part_put, all_put, returned, size_below, negative, size_asked, cleared, unread, long_body, empty_body, message_body, parameters}
-use Rattle.gen_pack.proofs.Members.{Among, all-among, all-if}
+use Rattle.gen_pack.specs.PackTree.{buffer, source, size, number, unsigned, declared, all_put, returned, size_below, negative, size_asked, cleared, unread, long_body, empty_body, message_body, parameters}
+use Rattle.gen_pack.proofs.Members.{Among, all-if}
 use Rattle.gen_pack.proofs.OwnLocals.{IsOther, IsFree, HaveOwn, have-own, all-free, flipped-names, and-left, and-right}
 use Rattle.gen_pack.proofs.Segments.{pack-call, segments-inside}
 use Rattle.gen_pack.proofs.Putting.{width-is}

@@ -1,5 +1,5 @@
 -- A message's pack function has no fault of types behind its struct, its prototype and its helpers.
-use Rattle.std.proofs.Common.{◌≡◌, ℕ, false, List, [], ◌∷◌, ◌++◌, map, Some, None, refl, sym, subst}
+use Rattle.std.proofs.Common.{◌≡◌, ℕ, false, List, [], map, Some, None, refl, sym, subst}
 use Rattle.std.specs.List.{AllByRecursion}
 use Rattle.can_model.specs.declared.database.Message.{Message}
 use Rattle.can_model.specs.Validity.{IsOfValidDatabase}
@@ -13,7 +13,7 @@ use Rattle.c_operators.proofs.Models.{IsOneOf}
 use Rattle.c_types.specs.Scope.{is_reserved}
 use Rattle.c_types.specs.Setting.{Setting}
 use Rattle.c_types.specs.UnitTypes.{item_faults}
-use Rattle.c_effect.proofs.Placeless.{grown_stmt, grown_list, grown_field, grown_function, grown_item}
+use Rattle.c_effect.proofs.Placeless.{grown_list, grown_field, grown_function, grown_item}
 use Rattle.c_alike.proofs.TypedStatements.{AreTyped}
 use Rattle.c_alike.proofs.TypedUnits.{AreFieldsTyped, typed-no_fields, typed-field, typed-first_head, typed-later_head, typed-prototype, typed-definition}
 use Rattle.gen_pack.specs.Named.{IsNamed}

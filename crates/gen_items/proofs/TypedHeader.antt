@@ -1,5 +1,5 @@
 -- A unit's structs and prototypes have no fault of types, and declare what its functions need.
-use Rattle.std.proofs.Common.{◌≡◌, ℕ, Bool, true, false, List, [], ◌∷◌, ◌++◌, map, Some, None, refl, ap, ◌∙◌, append-nil}
+use Rattle.std.proofs.Common.{◌≡◌, ℕ, true, false, List, [], ◌∷◌, ◌++◌, map, Some, None, refl, ap, ◌∙◌, append-nil}
 use Rattle.std.specs.Prelude.{not, bytes_eq}
 use Rattle.std.specs.List.{list_any, zip, AllByRecursion}
 use Rattle.can_model.specs.declared.database.Message.{Message}
@@ -9,14 +9,12 @@ use Rattle.name_rules.specs.declared.table.SignalNames.{SignalNames}
 use Rattle.name_rules.specs.Distinct.{are_distinct}
 use Rattle.name_rules.specs.Names.{is_c_name}
 use Rattle.name_rules.specs.Symbols.{AllPairs}
-use Rattle.c_tree.specs.declared.item.Field.{Field}
 use Rattle.c_tree.specs.declared.item.Function.{Function}
 use Rattle.c_tree.specs.declared.item.Item.{Item}
 use Rattle.c_tree.specs.declared.item.Item.TheVariants as item
 use Rattle.c_tree.specs.declared.item.Struct.{Struct as Structure}
 use Rattle.cg_out.specs.Words.{look_up}
 use Rattle.c_widths.specs.DataModel.{DataModel}
-use Rattle.c_types.specs.Scope.{is_reserved}
 use Rattle.c_types.specs.Setting.{Setting, setting, structs, functions, definitions, callings}
 use Rattle.c_types.specs.UnitTypes.{item_faults}
 use Rattle.c_effect.proofs.Locals.{same-name}
@@ -25,7 +23,7 @@ use Rattle.c_alike.proofs.TypedUnits.{structs-both, functions-both, LackField, A
 use Rattle.shift_helpers.specs.declared.helper.HelperKind.{HelperKind}
 use Rattle.shift_helpers.specs.HelperResult.{IsWidth}
 use Rattle.shift_helpers.specs.HelperTree.{helper_name}
-use Rattle.gen_pack.specs.StructFields.{fields_of, or_dummy, struct_fields}
+use Rattle.gen_pack.specs.StructFields.{fields_of, or_dummy}
 use Rattle.gen_pack.specs.Named.{IsNamed}
 use Rattle.gen_pack.proofs.OwnLocals.{and-left, and-right, none-first, none-later}
 use Rattle.gen_items.specs.ItemNames.{IsNoHelper}
@@ -165,8 +163,8 @@ module _ (model : DataModel) (items : List Item) where
   header-typed (m ∷ ms) (n ∷ ns) before named t p new_tags new =
       let first = item.Struct (structure m n) in
       let second = item.Function (prototype n) in
-      typed-item model items before first (second ∷ header ms ns) (struct-typed before _ m n named.0 t.words.0 new_tags.0)
-      (typed-item model items (before ++ first ∷ []) second (header ms ns) (declared-typed before _ m n p.words.0 new_tags.0 new.0)
+      typed-item model items before first (second ∷ header ms ns) (struct-typed before (setting model items (before ++ first ∷ [])) m n named.0 t.words.0 new_tags.0)
+      (typed-item model items (before ++ first ∷ []) second (header ms ns) (declared-typed before (setting model items (next before m n)) m n p.words.0 new_tags.0 new.0)
       (header-typed ms ns (next before m n) named.1 (words-behind n.tag (tags ns) t) (words-behind n.pack (packs ns) p)
       (tags-next before m n ns (past-later n.tag (tags ns) t.distinct) new_tags.1)
       (functions-new before m n ns (past-later n.pack (packs ns) p.distinct) new.1)))
@@ -196,7 +194,7 @@ header-stands (m ∷ ms) [] named t p = absurd named
 header-stands (m ∷ ms) (n ∷ ns) named t p = (
   record { fields_are = rw (same-name n.tag) refl; own = rw (same-name n.pack) refl },
   stand-behind m n (header ms ns) ms ns (past-later n.tag (tags ns) t) (past-later n.pack (packs ns) p)
-  (header-stands ms ns named.1 (later-distinct n.tag (tags ns) t) (later-distinct n.pack (packs ns) p)),
+      (header-stands ms ns named.1 (later-distinct n.tag (tags ns) t) (later-distinct n.pack (packs ns) p)),
 )
 
 -- it defines nothing

@@ -1,22 +1,18 @@
 -- The helpers of a unit: those that its pack functions call are among them, and grown from their trees they are what they were.
-use Rattle.std.proofs.Common.{◌≡◌, ℕ, Bool, true, false, cond, List, [], ◌∷◌, ◌++◌, map, filter, Some, None, inl, inr, refl, sym, ap, subst, ◌∙◌, arith}
-use Rattle.std.specs.Prelude.{◌&&◌, ◌||◌, ◌==◌, codes}
+use Rattle.std.proofs.Common.{◌≡◌, ℕ, Bool, true, false, cond, List, [], ◌∷◌, map, filter, Some, inl, inr, refl, sym, ap, ◌∙◌, arith}
+use Rattle.std.specs.Prelude.{◌||◌, ◌==◌, codes}
 use Rattle.std.specs.List.{list_any, AllByRecursion}
 use Rattle.std.proofs.lemmas.Bool.Decides.{nat_tests}
 use Rattle.can_model.specs.declared.database.Message.{Message}
 use Rattle.can_model.specs.declared.database.Signal.{Signal}
-use Rattle.can_model.specs.Validity.{IsOfValidDatabase}
-use Rattle.can_model.proofs.Placed.{placed}
 use Rattle.c_text.specs.declared.token.Spelled.TheVariants.{Exact}
 use Rattle.c_tree.specs.declared.expression.BinaryOp.{BinaryOp}
 use Rattle.c_tree.specs.declared.expression.BinaryOp.TheVariants as o
 use Rattle.c_tree.specs.declared.expression.Expr.{Expr}
 use Rattle.c_tree.specs.declared.expression.ExprKind.TheVariants as k
-use Rattle.c_tree.specs.declared.statement.StmtKind.TheVariants as s
-use Rattle.c_tree.specs.BareStatement.{bare_statement}
 use Rattle.c_tree.specs.BareUnit.{bare_item}
 use Rattle.c_effect.proofs.BareNodes.{bare-Name, bare-Cast, bare-Binary, bare-Bracket, bare-Return}
-use Rattle.c_effect.proofs.Equations.{node, stmt}
+use Rattle.c_effect.proofs.Equations.{node}
 use Rattle.c_effect.proofs.Placeless.{placeless, placeless_stmt, grown_item}
 use Rattle.bit_layout.specs.declared.walk.Segment.{Segment}
 use Rattle.bit_layout.specs.Segments.{segments_of}
@@ -29,7 +25,6 @@ use Rattle.gen_types.specs.HelperList as list
 use Rattle.gen_types.proofs.HelperCalls.{IsAmong}
 use Rattle.gen_pack.specs.SegmentMove.{width_of, pack_kind}
 use Rattle.gen_pack.proofs.Members.{Among, all-among, all-if}
-use Rattle.gen_pack.proofs.Putting.{width-is}
 use Rattle.gen_items.specs.CalledHelpers.{same_kind, calls_helper, is_called, called_helpers}
 use Rattle.gen_items.specs.UnitItems.{helper_items}
 
@@ -101,16 +96,27 @@ is-called messages m s g of_messages of_signals of_segments =
 
 -- ---- every helper is among all
 
-four : (kind : HelperKind) (w : ℕ) (rest : List (HelperKind × ℕ)) → IsWidth w → IsAmong (kind, w) ((kind, 8) ∷ (kind, 16) ∷ (kind, 32) ∷ (kind, 64) ∷ rest)
+-- those of a kind, in front of others
+abbrev pub of_kind : HelperKind → List (HelperKind × ℕ) → List (HelperKind × ℕ)
+of_kind kind rest = (kind, 8) ∷ (kind, 16) ∷ (kind, 32) ∷ (kind, 64) ∷ rest
+
+-- all but the first kind, and but the first two
+abbrev pub behind_left : List (HelperKind × ℕ)
+behind_left = of_kind h.PackRight (of_kind h.UnpackLeft (of_kind h.UnpackRight []))
+
+abbrev pub unpacking : List (HelperKind × ℕ)
+unpacking = of_kind h.UnpackLeft (of_kind h.UnpackRight [])
+
+four : (kind : HelperKind) (w : ℕ) (rest : List (HelperKind × ℕ)) → IsWidth w → IsAmong (kind, w) (of_kind kind rest)
 four kind w rest (inl e) = inl (ap (λ (v : ℕ). (kind, v)) (sym e))
 four kind w rest (inr (inl e)) = inr (inl (ap (λ (v : ℕ). (kind, v)) (sym e)))
 four kind w rest (inr (inr (inl e))) = inr (inr (inl (ap (λ (v : ℕ). (kind, v)) (sym e))))
 four kind w rest (inr (inr (inr e))) = inr (inr (inr (inl (ap (λ (v : ℕ). (kind, v)) (sym e)))))
 
 among-every : (kind : HelperKind) (w : ℕ) → IsWidth w → IsAmong (kind, w) every_helper
-among-every h.PackLeft w iw = four h.PackLeft w _ iw
-among-every h.PackRight w iw = inr (inr (inr (inr (four h.PackRight w _ iw))))
-among-every h.UnpackLeft w iw = inr (inr (inr (inr (inr (inr (inr (inr (four h.UnpackLeft w _ iw))))))))
+among-every h.PackLeft w iw = four h.PackLeft w behind_left iw
+among-every h.PackRight w iw = inr (inr (inr (inr (four h.PackRight w unpacking iw))))
+among-every h.UnpackLeft w iw = inr (inr (inr (inr (inr (inr (inr (inr (four h.UnpackLeft w (of_kind h.UnpackRight []) iw))))))))
 among-every h.UnpackRight w iw = inr (inr (inr (inr (inr (inr (inr (inr (inr (inr (inr (inr (four h.UnpackRight w [] iw))))))))))))
 
 among-first : (b : Bool) (x g : HelperKind × ℕ) (xs : List (HelperKind × ℕ)) → g ≡ x → b ≡ true → IsAmong x (cond b (g ∷ xs) xs)
@@ -139,4 +145,4 @@ HasWidth s = IsWidth (width_of s)
 pub called-among : (messages : List Message) (m : Message) → Among m messages → AllByRecursion HasWidth m.signals → AllByRecursion (AreAmongOf (called_helpers messages)) m.signals
 called-among messages m of_messages widths =
     all-if (AreAmongOf (called_helpers messages)) m.signals (λ s of_signals. all-if (λ g. IsAmong (pack_kind g, width_of s) (called_helpers messages)) (segments_of s) (λ g of_segments.
-        among-filter (is_called messages) (pack_kind g, width_of s) every_helper (among-every (pack_kind g) (width_of s) (all-among HasWidth s m.signals widths of_signals)) (is-called messages m s g of_messages of_signals of_segments)))
+    among-filter (is_called messages) (pack_kind g, width_of s) every_helper (among-every (pack_kind g) (width_of s) (all-among HasWidth s m.signals widths of_signals)) (is-called messages m s g of_messages of_signals of_segments)))

@@ -3,7 +3,7 @@ use Rattle.std.proofs.Common.{◌≡◌, ℕ, ◌^◌, ◌<◌, true, false, Lis
 use Rattle.std.specs.List.{AllByRecursion, flat_map}
 use Rattle.c_text.specs.declared.token.IntType.{IntType}
 use Rattle.c_text.specs.declared.token.IntType.TheVariants as t
-use Rattle.c_text.specs.declared.token.Spelled.TheVariants.{Exact, Plain, Size}
+use Rattle.c_text.specs.declared.token.Spelled.TheVariants.{Exact, Size}
 use Rattle.c_tree.specs.declared.expression.Callee.TheVariants.{Name}
 use Rattle.c_tree.specs.declared.expression.Expr.{Expr}
 use Rattle.c_tree.specs.declared.expression.ExprKind.TheVariants as k
@@ -120,7 +120,7 @@ module _ (s : Setting) (one : IsOneOf s.model) (returns : CType) (tag : List ℕ
   set-typed x (Some n) ready local =
       let w : ℕ = width_of x.signal in (
         typed-assign_name s returns scope no_place no_place n (Exact w false) Set (grown (cast (Exact w false) (field x))) (exact_type s.model w false) (type-shown n _ inner local)
-        (typed-cast s scope no_place (Exact w false) (grown (field x)) (type_of s.model (field_type x.signal)) (field-typed x ready)),
+            (typed-cast s scope no_place (Exact w false) (grown (field x)) (type_of s.model (field_type x.signal)) (field-typed x ready)),
         tt,
       )
 

@@ -1,6 +1,6 @@
 -- Generated units have no fault of types under any data model: headers, helpers and pack functions in a row.
 use Rattle.std.proofs.Common.{◌≡◌, ℕ, suc, Bool, true, false, cond, List, [], ◌∷◌, ◌++◌, map, filter, Some, None, inl, inr, refl, sym, ap, subst, ◌∙◌, append-nil}
-use Rattle.std.specs.Prelude.{bytes_eq, slice_get}
+use Rattle.std.specs.Prelude.{slice_get}
 use Rattle.std.specs.List.{zip, AllByRecursion}
 use Rattle.std.proofs.lemmas.List.{map-append}
 use Rattle.can_model.specs.declared.database.Message.{Message}
@@ -8,7 +8,6 @@ use Rattle.can_model.specs.declared.database.Signal.{Signal}
 use Rattle.can_model.specs.Validity.{IsOfValidDatabase}
 use Rattle.can_model.proofs.Placed.{placed}
 use Rattle.name_rules.specs.declared.table.MessageNames.{MessageNames}
-use Rattle.name_rules.specs.Distinct.{are_distinct}
 use Rattle.name_rules.specs.Names.{is_c_name}
 use Rattle.name_rules.specs.Symbols.{AllPairs}
 use Rattle.c_tree.specs.declared.item.Function.{Function}
@@ -20,7 +19,7 @@ use Rattle.c_tree.specs.BareUnit.{bare_unit}
 use Rattle.cg_out.specs.Words.{look_up}
 use Rattle.c_widths.specs.DataModel.{DataModel, models}
 use Rattle.c_operators.proofs.Models.{IsOneOf}
-use Rattle.c_types.specs.Setting.{Setting, setting, structs, functions, definitions, callings}
+use Rattle.c_types.specs.Setting.{setting, structs, functions, definitions, callings}
 use Rattle.c_types.specs.UnitTypes.{item_faults, unit_faults, faults_under}
 use Rattle.c_effect.proofs.Placeless.{grown_function, grown_item}
 use Rattle.c_alike.proofs.TypedUnits.{structs-both, functions-both, definitions-both, callings-both, AreItemsTyped, typed-no_items, typed-item, typed-items_both, typed-unit, typed-under_models, types-of_bare}
@@ -39,7 +38,7 @@ use Rattle.gen_pack.specs.SegmentMove.{width_of, pack_kind}
 use Rattle.gen_pack.specs.Named.{IsNamed}
 use Rattle.gen_pack.specs.Switches.{HasNoParent}
 use Rattle.gen_pack.specs.PackTree.{number, message_body, pack_head}
-use Rattle.gen_pack.proofs.Members.{Among, all-if}
+use Rattle.gen_pack.proofs.Members.{Among}
 use Rattle.gen_pack.proofs.OwnLocals.{flipped-names}
 use Rattle.gen_pack.proofs.Putting.{width-is}
 use Rattle.gen_items.specs.CalledHelpers.{is_called, called_helpers}
@@ -50,27 +49,27 @@ use Rattle.gen_items.proofs.TypedScope.{some-kept, none-kept, some-behind}
 use Rattle.gen_items.proofs.TypedSignals.{IsCallable}
 use Rattle.gen_items.proofs.TypedBody.{CallsHelpers}
 use Rattle.gen_items.proofs.TypedFunction.{IsDeclared, function-typed}
-use Rattle.gen_items.proofs.TypedHelpers.{helpers-stay, AreAmongOf, HasWidth, called-among}
+use Rattle.gen_items.proofs.TypedHelpers.{helpers-stay, of_kind, behind_left, unpacking, AreAmongOf, HasWidth, called-among}
 use Rattle.gen_items.proofs.TypedHeader.{IsPast, past-later, past-first, past-rest, later-distinct, tags, packs, header, NewTags, NewFunctions, AreWords, header-typed, Stands, header-stands, header-defines, header-calls, header-no_helper}
 
 -- ---- widths
 
 -- of signals of a valid database
-widths-from : (all xs : List Signal) → ((i : ℕ) (s : Signal) → slice_get xs i ≡ Some s → HasWidth s) → AllByRecursion HasWidth xs
-widths-from all [] each = tt
-widths-from all (s ∷ xs) each = (each 0 s refl, widths-from all xs (λ i t at. each (suc i) t at))
+widths-from : (xs : List Signal) → ((i : ℕ) (s : Signal) → slice_get xs i ≡ Some s → HasWidth s) → AllByRecursion HasWidth xs
+widths-from [] each = tt
+widths-from (s ∷ xs) each = (each 0 s refl, widths-from xs (λ i t at. each (suc i) t at))
 
 all-wide : (m : Message) → IsOfValidDatabase m → AllByRecursion HasWidth m.signals
-all-wide m valid = widths-from m.signals m.signals (λ i s at. (let p = placed m i s valid at in (width-is s.length p.bits).0))
+all-wide m valid = widths-from m.signals (λ i s at. (let p = placed m i s valid at in (width-is s.length p.bits).0))
 
 abbrev HaveWidths : List (HelperKind × ℕ) → Type 0
 HaveWidths xs = AllByRecursion (λ (x : HelperKind × ℕ). IsWidth x.1) xs
 
-four-wide : (kind : HelperKind) (rest : List (HelperKind × ℕ)) → HaveWidths rest → HaveWidths ((kind, 8) ∷ (kind, 16) ∷ (kind, 32) ∷ (kind, 64) ∷ rest)
+four-wide : (kind : HelperKind) (rest : List (HelperKind × ℕ)) → HaveWidths rest → HaveWidths (of_kind kind rest)
 four-wide kind rest have = (inl refl, (inr (inl refl), (inr (inr (inl refl)), (inr (inr (inr refl)), have))))
 
 every-wide : HaveWidths every_helper
-every-wide = four-wide h.PackLeft _ (four-wide h.PackRight _ (four-wide h.UnpackLeft _ (four-wide h.UnpackRight [] tt)))
+every-wide = four-wide h.PackLeft behind_left (four-wide h.PackRight unpacking (four-wide h.UnpackLeft (of_kind h.UnpackRight []) (four-wide h.UnpackRight [] tt)))
 
 wide-first : (b : Bool) (x : HelperKind × ℕ) (xs : List (HelperKind × ℕ)) → IsWidth x.1 → HaveWidths xs → HaveWidths (cond b (x ∷ xs) xs)
 wide-first true x xs first rest = (first, rest)
@@ -191,15 +190,15 @@ module _ (model : DataModel) (one : IsOneOf model) (helpers : List (HelperKind �
 
     stand-declared : (xs : List Message) (ks : List MessageNames) → AllPairs (Stands (header ms ns)) xs ks → AllByRecursion (λ n. IsNoHelper (MessageNames.pack n)) ks
         → AllPairs (IsDeclared (setting model everything (header ms ns ++ of_helpers))) xs ks
-    stand-declared [] ks stand no = stand
-    stand-declared (m ∷ xs) [] stand no = absurd stand
-    stand-declared (m ∷ xs) (n ∷ ks) stand no = (
+    stand-declared [] ks stand free = stand
+    stand-declared (m ∷ xs) [] stand free = absurd stand
+    stand-declared (m ∷ xs) (n ∷ ks) stand free = (
       record {
         fields_are = ap (look_up n.tag) (structs-both (header ms ns) of_helpers) ∙ some-kept n.tag _ (structs (header ms ns)) (structs of_helpers) stand.0.fields_are;
         own = ap (look_up n.pack) (functions-both (header ms ns) of_helpers) ∙ some-kept n.pack _ (functions (header ms ns)) (functions of_helpers) stand.0.own;
-        undefined = ap (look_up n.pack) (definitions-both (header ms ns) of_helpers ∙ rw (header-defines ms ns) refl) ∙ helpers-lack n.pack helpers wide no.0;
+        undefined = ap (look_up n.pack) (definitions-both (header ms ns) of_helpers ∙ rw (header-defines ms ns) refl) ∙ helpers-lack n.pack helpers wide free.0;
       },
-      stand-declared xs ks stand.1 no.1,
+      stand-declared xs ks stand.1 free.1,
     )
 
     new-tags : (ks : List MessageNames) → NewTags [] ks

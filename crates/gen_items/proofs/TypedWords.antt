@@ -1,6 +1,6 @@
 -- Names of a message's signals, as the rules of declarations ask for them (ISO/IEC 9899:1999, 6.2.1 and 7.1.3).
 use Rattle.std.proofs.Common.{◌≡◌, ℕ, suc, Bool, true, false, List, [], ◌∷◌, ◌++◌, Option, Some, None, inl, inr, refl, subst, arith}
-use Rattle.std.specs.Prelude.{◌||◌, ◌&&◌, ◌==◌, bytes_eq}
+use Rattle.std.specs.Prelude.{◌||◌, ◌==◌, bytes_eq}
 use Rattle.std.specs.Char.{is_ascii_alphabetic, is_ascii_alphanumeric}
 use Rattle.std.specs.List.{list_any, list_all, flat_map, AllByRecursion}
 use Rattle.std.proofs.lemmas.Bool.Decides.{nat_tests}
@@ -12,10 +12,9 @@ use Rattle.name_rules.specs.Names.{is_c_name, AreApart}
 use Rattle.name_rules.specs.Reserved.{is_reserved, is_reserved_local, is_among, parameter_names, helper_names}
 use Rattle.name_rules.specs.Symbols.{one_or_none, local_names}
 use Rattle.c_types.specs.Scope as scope
-use Rattle.shift_helpers.specs.declared.helper.HelperKind.{HelperKind}
 use Rattle.shift_helpers.specs.declared.helper.HelperKind.TheVariants as h
 use Rattle.shift_helpers.specs.HelperTree.{helper_name}
-use Rattle.gen_pack.specs.Parts.{Part, part, parts_from, parts_of}
+use Rattle.gen_pack.specs.Parts.{Part, parts_from, parts_of}
 use Rattle.gen_pack.proofs.OwnLocals.{and-left, or-first, or-second}
 use Rattle.gen_items.specs.ItemNames.{IsNoHelper}
 
