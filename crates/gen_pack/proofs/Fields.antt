@@ -48,7 +48,7 @@ record Found (name : List ℕ) (fields : List Field) (before index : ℕ) (s : S
   kind_is : field.kind ≡ Integer (field_type s)
 
 -- a name of a later signal is not that of an earlier field
-later-name : (a : List ℕ) (i : ℕ) (ss : List Signal) (ns : List SignalNames) (x : Part) → Among x (parts_from i ss ns) → not (list_any (bytes_eq a) (names_of ns)) ≡ true → bytes_eq a x.names.field ≡ false
+pub later-name : (a : List ℕ) (i : ℕ) (ss : List Signal) (ns : List SignalNames) (x : Part) → Among x (parts_from i ss ns) → not (list_any (bytes_eq a) (names_of ns)) ≡ true → bytes_eq a x.names.field ≡ false
 later-name a i [] ns x h e = absurd h
 later-name a i (s ∷ ss) [] x h e = absurd h
 later-name a i (s ∷ ss) (n ∷ ns) x (inl is) e = ap (λ v. bytes_eq a (Part.names v).field) is ∙ none-first (bytes_eq a n.field) (list_any (bytes_eq a) (names_of ns)) e

@@ -4,13 +4,13 @@ pub mod InPairs
 pub mod Numbers
 mod SegmentBits
 pub mod Segments
-mod OwnLocals
+pub mod OwnLocals
 pub mod Putting
-mod Fields
+pub mod Fields
 mod Declarations
 pub mod Flat
 mod Frames
 mod Steps
 pub mod Expanding
-mod Running
+pub mod Running
 pub mod Anywhere

@@ -107,11 +107,11 @@ pub record IsFree (x : Part) : Type 0 where
   pub of_source : IsOther source x.names.local
   pub of_size : IsOther size x.names.local
 
-or-first : (a b : Bool) → (a || b) ≡ false → a ≡ false
+pub or-first : (a b : Bool) → (a || b) ≡ false → a ≡ false
 or-first true b h = absurd (cc)
 or-first false b h = refl
 
-or-second : (a b : Bool) → (a || b) ≡ false → b ≡ false
+pub or-second : (a b : Bool) → (a || b) ≡ false → b ≡ false
 or-second true b h = absurd (cc)
 or-second false b h = h
 

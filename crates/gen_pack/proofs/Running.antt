@@ -58,7 +58,7 @@ use Rattle.gen_pack.proofs.Flat.{all-put-flat, all-active, signal-at}
 use Rattle.gen_pack.proofs.Frames.{IsPutBy, puts-frame}
 use Rattle.gen_pack.proofs.Steps.{returns-number, refuses, lets, clears, discards-source, negative-int}
 
-grown-list : (xs : List Action) → grown_list (actions_of xs) ≡ map grown_stmt xs
+pub grown-list : (xs : List Action) → grown_list (actions_of xs) ≡ map grown_stmt xs
 grown-list [] = refl
 grown-list (x ∷ xs) = ap (λ l. grown_stmt x ∷ l) (grown-list xs)
 
