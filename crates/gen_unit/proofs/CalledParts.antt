@@ -1,18 +1,19 @@
 -- The helpers that are called, in one row or in several.
-use Rattle.std.proofs.Common.{◌≡◌, ℕ, Bool, true, false, cond, List, [], ◌∷◌, ◌++◌, refl, sym, ap, ◌∙◌, append_assoc}
-use Rattle.std.specs.List.{filter, flat_map, zip}
+use Rattle.std.proofs.Common.{◌≡◌, ℕ, zero, suc, ◌<◌, Bool, true, false, cond, List, [], ◌∷◌, ◌++◌, length, slice_index_or, refl, sym, ap, subst, ◌∙◌, append_assoc, arith}
+use Rattle.std.specs.List.{AllByRecursion, filter, flat_map, zip}
 use Rattle.std.proofs.lemmas.List.Concat.{flat_map-append}
 use Rattle.can_model.specs.declared.database.Message.{Message}
 use Rattle.name_rules.specs.declared.table.MessageNames.{MessageNames}
 use Rattle.c_tree.specs.BareExpression.{name}
 use Rattle.c_tree.specs.BareUnit.{BareItem}
 use Rattle.c_printed.specs.PrintedUnit.{Part, blank}
+use Rattle.shift_helpers.specs.declared.helper.HelperKind.TheVariants.{PackLeft, PackRight, UnpackLeft, UnpackRight}
 use Rattle.gen_types.specs.HelperList.{every_helper}
 use Rattle.gen_pack.specs.PackTree.{error_name}
 use Rattle.shift_helpers.specs.declared.helper.HelperKind.{HelperKind}
 use Rattle.gen_items.specs.CalledHelpers.{is_called, called_helpers}
 use Rattle.gen_items.specs.UnitItems.{helper_items, defined_items}
-use Rattle.gen_unit.specs.Source.{separated, function_part, called_parts, source_items}
+use Rattle.gen_unit.specs.Source.{separated, function_part, called_parts, of_kind, source_items}
 
 module _ (ms : List Message) where
   called-both : (xs ys : List (HelperKind × ℕ)) → called_parts ms (xs ++ ys) ≡ called_parts ms xs ++ called_parts ms ys
@@ -26,8 +27,22 @@ module _ (ms : List Message) where
       by false h = h
 
   -- put one behind another
-  pub two-called : (before : List Part) (xs ys : List (HelperKind × ℕ)) → (before ++ called_parts ms xs) ++ called_parts ms ys ≡ before ++ called_parts ms (xs ++ ys)
+  two-called : (before : List Part) (xs ys : List (HelperKind × ℕ)) → (before ++ called_parts ms xs) ++ called_parts ms ys ≡ before ++ called_parts ms (xs ++ ys)
   two-called before xs ys = append_assoc before (called_parts ms xs) (called_parts ms ys) ∙ ap (λ (r : List Part). before ++ r) (sym (called-both xs ys))
+
+  -- those of one kind behind those of another are all
+  all-kinds : (before : List Part)
+      → (((before ++ called_parts ms (of_kind PackLeft)) ++ called_parts ms (of_kind PackRight)) ++ called_parts ms (of_kind UnpackLeft)) ++ called_parts ms (of_kind UnpackRight)
+      ≡ before ++ called_parts ms every_helper
+  all-kinds before =
+      let left : List (HelperKind × ℕ) = of_kind PackLeft ++ of_kind PackRight in
+      ap (λ (r : List Part). (r ++ called_parts ms (of_kind UnpackLeft)) ++ called_parts ms (of_kind UnpackRight)) (two-called before (of_kind PackLeft) (of_kind PackRight))
+      ∙ ap (λ (r : List Part). r ++ called_parts ms (of_kind UnpackRight)) (two-called before left (of_kind UnpackLeft))
+      ∙ two-called before (left ++ of_kind UnpackLeft) (of_kind UnpackRight)
+
+  pub four-kinds : (before one two three four : List Part) → one ≡ before ++ called_parts ms (of_kind PackLeft) → two ≡ one ++ called_parts ms (of_kind PackRight)
+      → three ≡ two ++ called_parts ms (of_kind UnpackLeft) → four ≡ three ++ called_parts ms (of_kind UnpackRight) → four ≡ before ++ called_parts ms every_helper
+  four-kinds before one two three four a b c d = rw (d, c, b, a) (all-kinds before)
 
 -- ---- functions of messages
 
@@ -53,3 +68,11 @@ pub source-is : (opening : List Part) (ms : List Message) (ns : List MessageName
 source-is opening ms ns =
     append_assoc opening (called_parts ms every_helper) (separated (defined_items (name error_name) (zip ms ns)))
     ∙ ap (λ (r : List Part). opening ++ r) (sym (separated-both (helper_items (called_helpers ms)) (defined_items (name error_name) (zip ms ns))))
+
+-- ---- in a loop
+
+-- what all are, the one at an index is
+pub at-index : {A : Type 0} (P : A → Type 0) (xs : List A) (i : ℕ) (x : A) → AllByRecursion P xs → i < length xs → x ≡ slice_index_or xs i x → P x
+at-index P [] i x all few is = absurd (omega (arith, few))
+at-index P (y ∷ ys) zero x all few is = subst P (sym is) all.0
+at-index P (y ∷ ys) (suc i) x all few is = let fewer : i < length ys = omega (arith, few) in at-index P ys i x all.1 fewer is
