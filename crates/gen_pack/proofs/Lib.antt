@@ -4,7 +4,7 @@ pub mod InPairs
 pub mod Numbers
 mod SegmentBits
 pub mod Segments
-mod OwnLocals
+pub mod OwnLocals
 pub mod Putting
 mod Fields
 mod Declarations
@@ -14,3 +14,5 @@ mod Steps
 pub mod Expanding
 mod Running
 pub mod Anywhere
+-- Worked values.
+mod WorkedPremises
