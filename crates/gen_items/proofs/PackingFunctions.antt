@@ -1,5 +1,5 @@
 -- Helpers and pack functions are found by their names, among the unit's definitions.
-use Rattle.std.proofs.Common.{◌≡◌, ℕ, true, not, List, [], ◌∷◌, ◌++◌, map, Some, inl, inr, refl, sym, ap, subst, ◌∙◌}
+use Rattle.std.proofs.Common.{◌≡◌, ℕ, true, not, List, [], ◌∷◌, ◌++◌, map, Some, inl, inr, refl, sym, subst}
 use Rattle.std.specs.List.{list_any}
 use Rattle.std.specs.Str.{bytes_eq}
 use Rattle.can_model.specs.declared.database.Message.{Message}
@@ -47,9 +47,9 @@ finds-called h (g ∷ helpers) rest different (inr among) =
 -- a name that no helper has is looked up behind them
 pub passes-helpers : (name : List ℕ) (helpers : List (HelperKind × ℕ)) (rest : List BareItem) → IsNoHelper name → HaveWidths helpers
     → look_up name (defined_by (helper_items helpers ++ rest)) ≡ look_up name (defined_by rest)
-passes-helpers name [] rest no widths = refl
-passes-helpers name (h ∷ helpers) rest no widths =
-    rw (flipped-names name (helper_name h.0 h.1) (no h.0 h.1 widths.0)) (passes-helpers name helpers rest no widths.1)
+passes-helpers name [] rest lacks widths = refl
+passes-helpers name (h ∷ helpers) rest lacks widths =
+    rw (flipped-names name (helper_name h.0 h.1) (lacks h.0 h.1 widths.0)) (passes-helpers name helpers rest lacks widths.1)
 
 -- ---- pack functions
 

@@ -30,7 +30,7 @@ use Rattle.gen_pack.proofs.Anywhere.{packs-in}
 use Rattle.gen_pack.proofs.Members.{Among, all-among, all-if}
 use Rattle.gen_items.specs.CalledHelpers.{is_called, called_helpers}
 use Rattle.gen_items.specs.ItemNames.{IsNoHelper, AreNamed}
-use Rattle.gen_items.specs.UnitItems.{declared_items, helper_items, defined_items, unit_items}
+use Rattle.gen_items.specs.UnitItems.{helper_items, defined_items, unit_items}
 use Rattle.gen_items.specs.UnitPacks.{HasPack, HavePacks}
 use Rattle.gen_items.proofs.PackingPairs.{pairs-if, pair-is, first-among, second-among, names-of_pairs}
 use Rattle.gen_items.proofs.PackingStructs.{tag_of, finds-fields, finds-tag}

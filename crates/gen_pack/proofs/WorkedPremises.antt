@@ -1,5 +1,5 @@
 -- The premises on a struct's values are met: those of a message with two signals, each with a value.
-use Rattle.std.proofs.Common.{◌≡◌, ℕ, zero, suc, Bool, true, false, [], ◌∷◌, Some, None, pos, negsuc, ℤ, refl}
+use Rattle.std.proofs.Common.{ℕ, zero, suc, Bool, true, false, [], ◌∷◌, Some, None, pos, negsuc, ℤ, refl}
 use Rattle.std.specs.Prelude.{codes}
 use Rattle.limit_fraction.specs.Decimal.{zero_decimal}
 use Rattle.can_model.specs.declared.database.Message.{Message}
