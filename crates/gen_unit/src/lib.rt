@@ -3,7 +3,7 @@
 //!
 //! ```text
 //! generate(alloc, b"can", &db, &names)   // #ifndef CAN_H .. #define CAN_PING_FRAME_ID (0x123u) .. #endif
-//!                                        // and #include <string.h> .. #include "can.h"
+//!                                        // and #include "can.h" .. int can_ping_pack(..) { .. }
 //! ```
 #![tactic(auto)]
 

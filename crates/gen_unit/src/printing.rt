@@ -25,7 +25,8 @@ pub struct Pair {
 
 /// The header and the source of the database of that name, by the names of the table: in the header
 /// three macros, a struct and a prototype for each message, behind an include guard; in the source
-/// the helpers that are called, and a pack function for each message.
+/// the helpers that are called, and a pack function for each message. The database is valid, and no
+/// signal of it is multiplexed.
 pub fn generate(
     alloc: Global,
     name: &[u8],
