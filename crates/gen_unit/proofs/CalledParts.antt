@@ -6,7 +6,7 @@ use Rattle.can_model.specs.declared.database.Message.{Message}
 use Rattle.name_rules.specs.declared.table.MessageNames.{MessageNames}
 use Rattle.c_tree.specs.BareExpression.{name}
 use Rattle.c_tree.specs.BareUnit.{BareItem}
-use Rattle.c_printed.specs.PrintedUnit.{Part, blank}
+use Rattle.c_printed.specs.PrintedUnit.{Part, blank, part_text, unit_text}
 use Rattle.shift_helpers.specs.declared.helper.HelperKind.TheVariants.{PackLeft, PackRight, UnpackLeft, UnpackRight}
 use Rattle.gen_types.specs.HelperList.{every_helper}
 use Rattle.gen_pack.specs.PackTree.{error_name}
@@ -50,12 +50,21 @@ module _ (ms : List Message) where
 abbrev pub parts_of_message : Message × MessageNames → List Part
 parts_of_message p = separated (defined_items (name error_name) (p ∷ []))
 
-pairs-apart : (ps : List (Message × MessageNames)) → flat_map parts_of_message ps ≡ separated (defined_items (name error_name) ps)
-pairs-apart [] = refl
-pairs-apart (p ∷ ps) = ap (λ (r : List Part). parts_of_message p ++ r) (pairs-apart ps)
+-- its text
+abbrev pub text_of_message : Message × MessageNames → List ℕ
+text_of_message p = unit_text (parts_of_message p)
 
-pub by-message : (ms : List Message) (ns : List MessageNames) → flat_map parts_of_message (zip ms ns) ≡ separated (defined_items (name error_name) (zip ms ns))
-by-message ms ns = pairs-apart (zip ms ns)
+text-both : (xs ys : List Part) → unit_text (xs ++ ys) ≡ unit_text xs ++ unit_text ys
+text-both xs ys = flat_map-append part_text xs ys
+
+texts-apart : (ps : List (Message × MessageNames)) → flat_map text_of_message ps ≡ unit_text (separated (defined_items (name error_name) ps))
+texts-apart [] = refl
+texts-apart (p ∷ ps) =
+    ap (λ (r : List ℕ). text_of_message p ++ r) (texts-apart ps)
+    ∙ sym (text-both (parts_of_message p) (separated (defined_items (name error_name) ps)))
+
+pub by-message : (ms : List Message) (ns : List MessageNames) → flat_map text_of_message (zip ms ns) ≡ unit_text (separated (defined_items (name error_name) (zip ms ns)))
+by-message ms ns = texts-apart (zip ms ns)
 
 -- ---- the whole
 
@@ -63,11 +72,21 @@ separated-both : (xs ys : List BareItem) → separated (xs ++ ys) ≡ separated 
 separated-both xs ys = flat_map-append (λ i. blank ∷ function_part i) xs ys
 
 -- the opening, the helpers and the functions
-pub source-is : (opening : List Part) (ms : List Message) (ns : List MessageNames)
+source-is : (opening : List Part) (ms : List Message) (ns : List MessageNames)
     → (opening ++ called_parts ms every_helper) ++ separated (defined_items (name error_name) (zip ms ns)) ≡ opening ++ separated (source_items ms ns)
 source-is opening ms ns =
     append_assoc opening (called_parts ms every_helper) (separated (defined_items (name error_name) (zip ms ns)))
     ∙ ap (λ (r : List Part). opening ++ r) (sym (separated-both (helper_items (called_helpers ms)) (defined_items (name error_name) (zip ms ns))))
+
+-- the text of both behind other bytes
+pub text-is : (before front after : List ℕ) (opening : List Part) (ms : List Message) (ns names : List MessageNames) → ns ≡ names
+    → front ≡ before ++ unit_text (opening ++ called_parts ms every_helper) → after ≡ front ++ unit_text (separated (defined_items (name error_name) (zip ms ns)))
+    → after ≡ before ++ unit_text (opening ++ separated (source_items ms names))
+text-is before front after opening ms ns names e h k =
+    let head : List Part = opening ++ called_parts ms every_helper in
+    let tail : List Part = separated (defined_items (name error_name) (zip ms ns)) in
+    k ∙ ap (λ (r : List ℕ). r ++ unit_text tail) h ∙ append_assoc before (unit_text head) (unit_text tail)
+    ∙ ap (λ (r : List ℕ). before ++ r) (sym (text-both head tail) ∙ ap unit_text (source-is opening ms ns) ∙ ap (λ (x : List MessageNames). unit_text (opening ++ separated (source_items ms x))) e)
 
 -- ---- in a loop
 

@@ -9,7 +9,7 @@ ghost use Rattle.gen_unit.specs.Header.{header_text};
 ghost use Rattle.gen_unit.specs.Source.{source_text};
 
 use crate::header_unit::header_unit;
-use crate::source_unit::source_unit;
+use crate::source_unit::print_source;
 use c_printer::print;
 use can_model::{Database, Message};
 use cg_out::Memory;
@@ -67,8 +67,7 @@ fn source(
     requires flat { AllByRecursion (λ m. AllByRecursion HasNoParent m.signals) messages.now }
     ensures { IfOk result (λ v. v.items ≡ source_text name.now messages.now names.now) }
 {
-    let unit = source_unit(alloc, name, messages, names)?;
     let mut out = Vec::new(alloc);
-    print(&unit, &mut out)?;
+    print_source(alloc, name, messages, names, &mut out)?;
     Ok(out)
 }

@@ -1,8 +1,10 @@
-//! The source as a list of parts.
+//! The source, part by part.
 ghost use Rattle.std.specs.Prelude.{◌≡◌, ◌++◌, ◌∷◌, [], IfOk, OnOk};
 ghost use Rattle.std.specs.List.{AllByRecursion, zip};
 ghost use Rattle.can_model.specs.Validity.{IsOfValidDatabase};
+ghost use Rattle.c_printed.specs.PrintedUnit.{unit_text};
 ghost use Rattle.c_printer.specs.BarePart.{bare_parts};
+ghost use Rattle.gen_types.specs.HelperList.{every_helper};
 ghost use Rattle.gen_pack.specs.Switches.{HasNoParent};
 ghost use Rattle.gen_items.specs.UnitItems.{defined_items};
 ghost use Rattle.c_tree.specs.BareExpression.{name};
@@ -12,29 +14,45 @@ ghost use Rattle.gen_unit.specs.Source as spec;
 
 use crate::helpers::put_helpers;
 use crate::parts::{put_blank, put_function, put_include, put_include_beside, put_opening_comment};
-use c_printer::{Part, PrintUnit};
+use c_printer::{Part, PrintUnit, print};
 use can_model::Message;
 use cg_out::{List, Memory};
 use gen_pack::pack_tree;
 use name_rules::{MessageNames, SymbolTable};
 use std::alloc::{AllocError, Global};
 
-/// The source of these messages, by the names of the table, for a database of that name.
-pub fn source_unit(
+/// Appends the source of these messages, by the names of the table, for a database of that name;
+/// of the functions of messages one at a time is a tree.
+pub fn print_source(
     alloc: Global,
     file: &[u8],
     messages: &[Message],
     names: &SymbolTable,
-) -> Result<PrintUnit, Memory>
+    out: &mut Vec<u8>,
+) -> Result<(), Memory>
     requires valid { AllByRecursion IsOfValidDatabase messages.now }
     requires flat { AllByRecursion (λ m. AllByRecursion HasNoParent m.signals) messages.now }
-    ensures { IfOk result (λ u. bare_parts u.parts ≡ spec.source_parts file.now messages.now names.now) }
+    ensures { OnOk result (out.new.items ≡ out.old.items ++ spec.source_text file.now messages.now names.now) }
+{
+    print_front(alloc, file, messages, out)?;
+    print_functions(alloc, messages, names.messages.items(), out)
+}
+
+/// Appends what stands in front of the functions of messages.
+fn print_front(
+    alloc: Global,
+    file: &[u8],
+    messages: &[Message],
+    out: &mut Vec<u8>,
+) -> Result<(), Memory>
+    requires { AllByRecursion IsOfValidDatabase messages.now }
+    ensures { OnOk result (out.new.items ≡ out.old.items ++ unit_text (spec.opening_parts file.now ++ spec.called_parts messages.now every_helper)) }
 {
     let mut parts = List::new(alloc);
     put_opening(alloc, &mut parts, file)?;
     put_helpers(alloc, &mut parts, messages)?;
-    put_functions(alloc, &mut parts, messages, names.messages.items())?;
-    Ok(PrintUnit { parts })
+    let unit = PrintUnit { parts };
+    Ok(print(&unit, out)?)
 }
 
 fn put_opening(alloc: Global, parts: &mut List<Part>, file: &[u8]) -> Result<(), Memory>
@@ -62,20 +80,36 @@ fn header_name(alloc: Global, name: &[u8]) -> Result<Vec<u8>, AllocError>
     Ok(file)
 }
 
-fn put_functions(
+fn print_functions(
     alloc: Global,
-    parts: &mut List<Part>,
     messages: &[Message],
     names: &[MessageNames],
+    out: &mut Vec<u8>,
 ) -> Result<(), Memory>
     requires valid { AllByRecursion IsOfValidDatabase messages.now }
     requires flat { AllByRecursion (λ m. AllByRecursion HasNoParent m.signals) messages.now }
-    ensures { OnOk result (bare_parts parts.new ≡ bare_parts parts.old ++ spec.separated (defined_items (name error_name) (zip messages.now names.now))) }
+    ensures { OnOk result (out.new.items ≡ out.old.items ++ unit_text (spec.separated (defined_items (name error_name) (zip messages.now names.now)))) }
 {
     for (m, n) in messages.iter().zip(names) {
-        put_message(alloc, parts, m, n)?;
+        print_message(alloc, m, n, out)?;
     }
     Ok(())
+}
+
+fn print_message(
+    alloc: Global,
+    m: &Message,
+    names: &MessageNames,
+    out: &mut Vec<u8>,
+) -> Result<(), Memory>
+    requires valid { IsOfValidDatabase m.now }
+    requires flat { AllByRecursion HasNoParent m.now.signals }
+    ensures { OnOk result (out.new.items ≡ out.old.items ++ unit_text (spec.separated (defined_items (name error_name) ((m.now, names.now) ∷ [])))) }
+{
+    let mut parts = List::new(alloc);
+    put_message(alloc, &mut parts, m, names)?;
+    let unit = PrintUnit { parts };
+    Ok(print(&unit, out)?)
 }
 
 fn put_message(

@@ -4,10 +4,9 @@ use Rattle.std.specs.Iterator.Adapters.{zip_first, zip_second}
 use Rattle.std.specs.Slice.Iter.{iter_rest}
 use Rattle.std.proofs.lemmas.List.{length_push}
 use Rattle.std.proofs.lemmas.Slice.Zip.{zip_turn, zip_end}
-use Rattle.c_printer.specs.BarePart.{bare_parts}
 use Rattle.gen_pack.proofs.InPairs.{one_more, all_pairs}
-use Rattle.gen_unit.proofs.CalledParts.{parts_of_message, by-message}
-use Rattle.gen_unit.proofs.source_unit.put_functions.Goals as goal
+use Rattle.gen_unit.proofs.CalledParts.{text_of_message, by-message}
+use Rattle.gen_unit.proofs.source_unit.print_functions.Goals as goal
 
 pub loop-m-preserved : goal.loop-m-preserved
 loop-m-preserved c =
@@ -16,8 +15,8 @@ loop-m-preserved c =
     let first = ap (λ z. iter_rest (zip_first z)) c.into_iter-m-iterator.ensures.into_iter_gives ∙ ap iter_rest c.zip-m-items.ensures.first ∙ c.iter.ensures.rest in
     let second = ap (λ z. iter_rest (zip_second z)) c.into_iter-m-iterator.ensures.into_iter_gives ∙ c.zip-m-items.ensures.second.0 in
     let turn = zip_turn ms ns c.loop-m.yielded c.into_iter-m-iterator.result c.loop-m.m-iterator c.next.new.self c.next.result first second c.loop-m.yielded_by (c.in-Some.m, c.in-Some.n) c.in-Some.is c.next.ensures.steps in
-    c.in_ok-put_message.ensures
-    ∙ one_more parts_of_message (bare_parts c.args.parts.now) (bare_parts c.loop-m.parts) ms ns (length c.loop-m.yielded) _ c.in-Some.m.now c.in-Some.n.now (length_push c.loop-m.yielded (c.in-Some.m, c.in-Some.n))
+    c.in_ok-print_message.ensures
+    ∙ one_more text_of_message c.args.out.now.items c.loop-m.out.items ms ns (length c.loop-m.yielded) _ c.in-Some.m.now c.in-Some.n.now (length_push c.loop-m.yielded (c.in-Some.m, c.in-Some.n))
     turn.0 turn.1 (turn.2 c.in-Some.m.now) (turn.3 c.in-Some.n.now) c.loop-m.invariant
 
 pub returns : goal.returns
@@ -27,4 +26,4 @@ returns c =
     let first = ap (λ z. iter_rest (zip_first z)) c.into_iter-m-iterator.ensures.into_iter_gives ∙ ap iter_rest c.zip-m-items.ensures.first ∙ c.iter.ensures.rest in
     let second = ap (λ z. iter_rest (zip_second z)) c.into_iter-m-iterator.ensures.into_iter_gives ∙ c.zip-m-items.ensures.second.0 in
     let end = zip_end ms ns c.loop-m.yielded c.into_iter-m-iterator.result c.loop-m.m-iterator c.next.new.self c.next.result first second c.loop-m.yielded_by c.in-None.is c.next.ensures.steps in
-    c.loop-m.invariant ∙ ap (λ ps. bare_parts c.args.parts.now ++ ps) (all_pairs parts_of_message ms ns (length c.loop-m.yielded) end ∙ by-message ms ns)
+    c.loop-m.invariant ∙ ap (λ ps. c.args.out.now.items ++ ps) (all_pairs text_of_message ms ns (length c.loop-m.yielded) end ∙ by-message ms ns)
