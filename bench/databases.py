@@ -1,8 +1,8 @@
 #!/usr/bin/env python3
 """Times `cantoolc generate_c_source` on whole DBC databases, from 1,024 to 32,768 signals.
 
-Prints the bytes of each text, the seconds, the peak memory and how many times the text that is, and how fast the time
-grows (an exponent of 1 is linear): with few and with many signals a message, with a comment, an attribute and choices
+Prints the bytes of each text and of the pair that is written of it, the seconds, the peak memory, which part that is of 20
+times the text and twice the pair, and how fast the time grows (an exponent of 1 is linear): with few and with many signals a message, with a comment, an attribute and choices
 for each signal, with names that are long and alike or have one identifier, and with many statements that speak of one
 signal; and those of `encode` and `decode` beside reading and checking alone. Beside it, where python3-canmatrix is there,
 the time in which that loads the same file. Build the program first (./run).
@@ -78,7 +78,9 @@ def row(folder, name, lines):
     beside = ""
     if importlib.util.find_spec("canmatrix"):
         beside = f"{measure([sys.executable, '-c', LOAD, path], folder, 1).used:.2f}"
-    print(f"{size:>10} {run.used:>9.4f} {run.peak / 1e6:>9.1f} {run.peak / size:>7.1f} {beside:>10}   {name}")
+    pair = sum(os.path.getsize(os.path.join(folder, f"bench.{kind}")) for kind in "hc")
+    part = run.peak / (20 * size + 2 * pair)
+    print(f"{size:>10} {pair:>10} {run.used:>9.4f} {run.peak / 1e6:>9.1f} {part:>7.2f} {beside:>10}   {name}")
     return size, run.used
 
 
@@ -99,7 +101,7 @@ def print_codec(a_message):
 
 def main():
     want_program()
-    print(f"{'bytes':>10} {'seconds':>9} {'peak MB':>9} {'times':>7} {'canmatrix':>10}")
+    print(f"{'bytes':>10} {'of pair':>10} {'seconds':>9} {'peak MB':>9} {'part':>7} {'canmatrix':>10}")
     for name, (counts, text) in SHAPES.items():
         with tempfile.TemporaryDirectory() as folder:
             print_exponent(row(folder, name, text(n)) for n in counts)

@@ -90,9 +90,9 @@ int f(uint8_t *p, struct s *q, int v) {
     return q->a;
 }
 """
-FILES = {"can.h": OLD, "f.h": b"", "f.c": SOURCE}
+FILES = {"can.h": OLD, "can.c": OLD, "f.h": b"", "f.c": SOURCE}
 COMMANDS = {
-    "generate_c_source can.dbc": b"can.h\n",
+    "generate_c_source can.dbc": b"can.h\ncan.c\n",
     "check f.h f.c": b"ok\n",
     "exec f.h f.c lp64 f raw:3 struct:b=7 int:1": b"return 4\narg 1: 0007--\narg 2: a=4 b=7\n",
 }
