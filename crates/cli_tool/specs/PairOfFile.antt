@@ -23,11 +23,14 @@ pub record IsPairOf (file text header source : List ℕ) : Type 0 where
   pub source_is : source ≡ source_text (database_name file) db.messages names
   pub meaning : Faithful (database_name file) db.messages names header source
 
--- where the contents are told, the file's text has a header and a source of which this is so, with the contents before and after
+-- the file's text has a header and a source of which this is so
+abbrev pub HasPair : List ℕ → List ℕ → (List ℕ → List ℕ → Type 0) → Type 0
+HasPair file text P = (header : List ℕ) × (source : List ℕ) × IsPairOf file text header source × P header source
+
+-- where the contents are told, the same of both, with the contents before and after
 abbrev pub OfPair : List ℕ → FilesSeen → FilesSeen → (List ℕ → List ℕ → Folder → Folder → Type 0) → Type 0
 OfPair file old new P =
-    IfTold old.content new.content (λ a b. IsSomeAnd (get a file) (λ text.
-      (header : List ℕ) × (source : List ℕ) × IsPairOf file text header source × P header source a b))
+    IfTold old.content new.content (λ a b. IsSomeAnd (get a file) (λ text. HasPair file text (λ header source. P header source a b)))
 
 -- the files after the header was set
 abbrev pub with_header : List ℕ → Folder → List ℕ → Folder
@@ -38,17 +41,22 @@ abbrev pub with_pair : List ℕ → Folder → List ℕ → List ℕ → Folder
 with_pair file files header source = insert (with_header file files header) (source_path file) source
 
 -- both stand in their files, and no other file changed
+abbrev pub PutsPair : List ℕ → List ℕ → List ℕ → Folder → Folder → Type 0
+PutsPair file header source a b = b ≡ with_pair file a header source
+
+-- the write of the header failed, or that of the source behind a header that stands whole: the file of this write is as
+-- it was or holds the first of its bytes, and no other file changed
+abbrev pub TearsPair : List ℕ → List ℕ → List ℕ → Folder → Folder → Type 0
+TearsPair file header source a b =
+    IsTornWrite a b (header_path file) header ⊎ IsTornWrite (with_header file a header) b (source_path file) source
+
 abbrev pub IsPairPut : List ℕ → FilesSeen → FilesSeen → Type 0
-IsPairPut file old new = OfPair file old new (λ header source a b. b ≡ with_pair file a header source)
+IsPairPut file old new = OfPair file old new (PutsPair file)
 
--- a write failed: the header's, or the source's behind a header that stands whole; the file of this write is as it was
--- or holds the first of its bytes, and no other file changed
 abbrev pub IsPairTorn : List ℕ → FilesSeen → FilesSeen → Type 0
-IsPairTorn file old new =
-    OfPair file old new (λ header source a b.
-      IsTornWrite a b (header_path file) header ⊎ IsTornWrite (with_header file a header) b (source_path file) source)
+IsPairTorn file old new = OfPair file old new (TearsPair file)
 
--- at status 0 both stand there, at 4 and 5 they may; of other statuses `Ends` says all
+-- at status 0 both stand there, at 5 both may, and at 4 one may be torn; of other statuses `Ends` says all
 abbrev pub PairStands : List ℕ → FilesSeen → FilesSeen → Status → Type 0
 PairStands file old new Done = IsPairPut file old new
 PairStands file old new FileFault = (new.content ≡ old.content) ⊎ IsPairTorn file old new

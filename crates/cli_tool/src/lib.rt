@@ -2,7 +2,7 @@
 //! the whole program.
 //!
 //! ```text
-//! run(alloc, &words, &mut files, &mut out)   // Status::Done, and header and source stand in their files
+//! run(alloc, &words, &mut files, &mut out)   // Status::Done, and the pair is written
 //! ```
 #![tactic(auto)]
 
