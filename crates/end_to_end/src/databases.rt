@@ -580,19 +580,19 @@ const TRIALS: &[(&str, u8, &str)] = &[
     ("%", b'%', "1 BadByte"),
 ];
 
-/// Runs `generate_c_source a.dbc` over this text: the report without its line end, `a.h` where the
-/// text is not refused.
+/// Runs `generate_c_source a.dbc` over this text: the report without its line end, or `a.h` where
+/// the text is not refused.
 fn check_text(rt: &impl Abort, alloc: Global, text: &str, report: &str) -> Result<(), Fail> {
     let bytes = text.as_bytes();
     let files = [("a.dbc", bytes)];
-    let told = format!(in alloc; "{report}\n")?;
     let words = "generate_c_source a.dbc";
     if report == "a.h" {
         let left = [("a.dbc", Some(bytes))];
-        let row = plain(words, &files, Status::Done, told.as_bytes(), &left);
+        let row = plain(words, &files, Status::Done, b"a.h\na.c\n", &left);
         check_about(rt, alloc, &row, text)
     } else {
-        let left = [("a.dbc", Some(bytes)), ("a.h", None)];
+        let told = format!(in alloc; "{report}\n")?;
+        let left = [("a.dbc", Some(bytes)), ("a.h", None), ("a.c", None)];
         let row = plain(words, &files, Status::Refused, told.as_bytes(), &left);
         check_about(rt, alloc, &row, text)
     }
@@ -613,7 +613,8 @@ fn messages_have_their_declarations(rt: HostRuntime) -> Result<(), Fail> {
     for &(name, pieces, messages) in HEADERS {
         let words = format!(in alloc; "generate_c_source {name}.dbc")?;
         let file = format!(in alloc; "{name}.dbc")?;
-        let report = format!(in alloc; "{name}.h\n")?;
+        let written = format!(in alloc; "{name}.h")?;
+        let report = format!(in alloc; "{name}.h\n{name}.c\n")?;
         let text = pieces.concat(alloc)?;
         let guard = format!(in alloc; "{name}_h")?.to_ascii_uppercase(alloc)?;
         let header = format!(in alloc;
@@ -634,7 +635,7 @@ fn messages_have_their_declarations(rt: HostRuntime) -> Result<(), Fail> {
 "
         )?;
         let files = [(file.as_str(), text.as_bytes())];
-        let left = [(report.trim_end(), Some(header.as_bytes()))];
+        let left = [(written.as_str(), Some(header.as_bytes()))];
         let row = plain(&words, &files, Status::Done, report.as_bytes(), &left);
         check_about(&rt, alloc, &row, &text)?;
     }

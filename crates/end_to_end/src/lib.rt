@@ -14,6 +14,8 @@ mod executions;
 #[cfg(test)]
 mod explained;
 #[cfg(test)]
+mod pairs;
+#[cfg(test)]
 mod reading;
 #[cfg(test)]
 mod rows;

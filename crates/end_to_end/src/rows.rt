@@ -1,4 +1,6 @@
 //! The rows.
+use crate::databases::EXAMPLE;
+use crate::pairs::EXAMPLE_SOURCE;
 use crate::table::{Row, check, check_all, plain};
 use cg_out::{Entry, Failing, MemoryFiles, MemorySink, Text};
 use cli_tool::{Status, Word, run};
@@ -43,6 +45,38 @@ struct can_pong_t {
 int can_pong_pack(uint8_t *dst_p, const struct can_pong_t *src_p, size_t size);
 
 #endif
+";
+
+const CAN_SOURCE: &[u8] = b"/* Generated from a CAN database. Do not edit. */
+
+#include <string.h>
+
+#include \"can.h\"
+
+int can_ping_pack(uint8_t *dst_p, const struct can_ping_t *src_p, size_t size)
+{
+    (void)src_p;
+    if (size < 2u) {
+        return (-EINVAL);
+    }
+    memset(dst_p, 0, 2u);
+    return (2);
+}
+
+int can_pong_pack(uint8_t *dst_p, const struct can_pong_t *src_p, size_t size)
+{
+    (void)dst_p;
+    (void)src_p;
+    (void)size;
+    return (0);
+}
+";
+
+const NIL_SOURCE: &[u8] = b"/* Generated from a CAN database. Do not edit. */
+
+#include <string.h>
+
+#include \"nil.h\"
 ";
 
 const NIL_HEADER: &[u8] = b"/* Generated from a CAN database. Do not edit. */
@@ -98,11 +132,11 @@ const HEADERS: &[Row<'static>] = &[
         failing: &[],
         sink_failing: &[],
         status: Status::Done,
-        report: b"can.h\n",
+        report: b"can.h\ncan.c\n",
         left: &[
             ("can.h", Some(CAN_HEADER)),
+            ("can.c", Some(CAN_SOURCE)),
             ("can.dbc", Some(CAN)),
-            ("can.c", None),
         ],
     },
     Row {
@@ -111,8 +145,21 @@ const HEADERS: &[Row<'static>] = &[
         failing: &[],
         sink_failing: &[],
         status: Status::Done,
-        report: b"nil.h\n",
-        left: &[("nil.h", Some(NIL_HEADER)), ("other.h", Some(b"stays"))],
+        report: b"nil.h\nnil.c\n",
+        left: &[
+            ("nil.h", Some(NIL_HEADER)),
+            ("nil.c", Some(NIL_SOURCE)),
+            ("other.h", Some(b"stays")),
+        ],
+    },
+    Row {
+        words: "generate_c_source example.dbc",
+        files: &[("example.dbc", EXAMPLE.as_bytes())],
+        failing: &[],
+        sink_failing: &[],
+        status: Status::Done,
+        report: b"example.h\nexample.c\n",
+        left: &[("example.c", Some(EXAMPLE_SOURCE))],
     },
     Row {
         words: "generate_c_source in/.a/My-Bus.v2.dbc",
@@ -123,7 +170,7 @@ const HEADERS: &[Row<'static>] = &[
         failing: &[],
         sink_failing: &[],
         status: Status::Done,
-        report: b"my_bus_v2.h\n",
+        report: b"my_bus_v2.h\nmy_bus_v2.c\n",
         left: &[("my_bus_v2.h", Some(SHOWN_HEADER))],
     },
 ];
@@ -157,7 +204,7 @@ const FAILURES: &[Row<'static>] = &[
         sink_failing: &[],
         status: Status::FileFault,
         report: b"",
-        left: &[("absent.h", None)],
+        left: &[("absent.h", None), ("absent.c", None)],
     },
     Row {
         words: "generate_c_source can.dbc",
@@ -166,7 +213,19 @@ const FAILURES: &[Row<'static>] = &[
         sink_failing: &[],
         status: Status::FileFault,
         report: b"",
-        left: &[("can.h", Some(b"/* Generat"))],
+        left: &[("can.h", Some(b"/* Generat")), ("can.c", None)],
+    },
+    Row {
+        words: "generate_c_source can.dbc",
+        files: CAN_AND_OLD,
+        failing: &[Failing { call: 3, keep: 10 }],
+        sink_failing: &[],
+        status: Status::FileFault,
+        report: b"",
+        left: &[
+            ("can.h", Some(CAN_HEADER)),
+            ("can.c", Some(b"/* Generat")),
+        ],
     },
     Row {
         words: "generate_c_source can.dbc",
@@ -184,7 +243,10 @@ const FAILURES: &[Row<'static>] = &[
         sink_failing: &[Failing { call: 1, keep: 4 }],
         status: Status::OutFault,
         report: b"can.",
-        left: &[("can.h", Some(CAN_HEADER))],
+        left: &[
+            ("can.h", Some(CAN_HEADER)),
+            ("can.c", Some(CAN_SOURCE)),
+        ],
     },
 ];
 
@@ -234,7 +296,7 @@ fn the_limit_is_exact(rt: HostRuntime) -> Result<(), Fail> {
         words.push(Word::new(String::from_str(alloc, word)?))?;
     }
     for (length, status, report) in [
-        (8_388_608, Status::Done, b"nil.h\n".as_slice()),
+        (8_388_608, Status::Done, b"nil.h\nnil.c\n".as_slice()),
         (8_388_609, Status::Refused, b"refused 5 TooLarge line 0\n"),
     ] {
         let entries = [Entry {

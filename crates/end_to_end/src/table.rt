@@ -62,7 +62,7 @@ pub(super) fn check_about(
     for word in row.words.split_ascii_whitespace() {
         words.push(Word::new(String::from_str(alloc, word)?))?;
     }
-    let mut files = MemoryFiles::new(alloc, &entries, 1 << 18, row.failing)?;
+    let mut files = MemoryFiles::new(alloc, &entries, 1 << 20, row.failing)?;
     let mut out = MemorySink::new(alloc, 100, row.sink_failing)?;
     assert_eq!(rt;
         run(alloc, &words, &mut files, &mut out),

@@ -8,3 +8,9 @@ mod TypedFunction
 mod TypedHelpers
 mod TypedHeader
 pub mod TypedUnit
+-- Each pack function of such a unit packs its message.
+mod PackingPairs
+mod PackingStructs
+mod PackingHelpers
+mod PackingFunctions
+pub mod PackingUnit

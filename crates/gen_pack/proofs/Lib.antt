@@ -14,3 +14,5 @@ mod Steps
 pub mod Expanding
 pub mod Running
 pub mod Anywhere
+-- Worked values.
+mod WorkedPremises

@@ -62,7 +62,7 @@ abbrev pub IsAmong : HelperKind × ℕ → List (HelperKind × ℕ) → Type 0
 IsAmong h [] = ⊥
 IsAmong h (g ∷ helpers) = (g ≡ h) ⊎ IsAmong h helpers
 
-lacks-name : (h : HelperKind × ℕ) (helpers : List (HelperKind × ℕ)) (name : List ℕ) → Lack helpers name → IsAmong h helpers → bytes_eq name (helper_name h.0 h.1) ≡ false
+pub lacks-name : (h : HelperKind × ℕ) (helpers : List (HelperKind × ℕ)) (name : List ℕ) → Lack helpers name → IsAmong h helpers → bytes_eq name (helper_name h.0 h.1) ≡ false
 lacks-name h [] name lack among = absurd among
 lacks-name h (g ∷ helpers) name lack (inl is) = subst (λ (x : HelperKind × ℕ). bytes_eq name (helper_name x.0 x.1) ≡ false) is lack.0
 lacks-name h (g ∷ helpers) name lack (inr among) = lacks-name h helpers name lack.1 among

@@ -40,9 +40,10 @@ pub fn generate(
     ensures faithful { IsNamedDatabase name.now db.now names.now
         → IfOk result (λ p. Faithful name.now db.now.messages names.now p.header.items p.source.items) }
 {
+    let messages = db.messages.items();
     Ok(Pair {
-        header: header(alloc, db.messages.items(), names)?,
-        source: source(alloc, name, db.messages.items(), names)?,
+        header: header(alloc, messages, names)?,
+        source: source(alloc, name, messages, names)?,
     })
 }
 

@@ -1,8 +1,6 @@
-//! `name_rules` and `gen_unit`: the identifier of a name, the names of a database, and what a pair
-//! says of a message.
+//! `name_rules`: the identifier of a name, and the names of a database.
 use cg_out::{Memory, Text};
 use db_text::read_dbc;
-use gen_unit::generate;
 use name_rules::{MessageNames, SymbolTable, identifier, symbols};
 use std::alloc::{AllocError, Global};
 use std::test::Fail;
@@ -157,40 +155,5 @@ fn a_database_has_its_names(rt: HostRuntime) -> Result<(), Fail> {
         let shown = shown(alloc, &names)?;
         assert_eq!(rt; shown.as_slice(), wanted.as_bytes(), "the names of {text}");
     }
-    Ok(())
-}
-
-#[test]
-fn a_message_has_its_declarations(rt: HostRuntime) -> Result<(), Fail> {
-    let alloc = rt.alloc();
-    let checked = read_dbc(
-        alloc,
-        b"BO_ 2047 ABC: 64 X SG_ D : 0|64@1- (1,0) [0|0] \"*/\" X CM_ BO_ 2047 \"A*B?\\c */\";",
-    )?;
-    let name = identifier(alloc, b"x")?;
-    let names = symbols(alloc, checked.database(), &name, false)?;
-    let pair = generate(alloc, name.bytes(), checked.database(), &names)?;
-    let tail = b"/* Message ABC A.B..c ./ */
-#define X_ABC_FRAME_ID (0x7ffu)
-#define X_ABC_LENGTH (64u)
-#define X_ABC_IS_EXTENDED (0)
-
-struct x_abc_t {
-    /* D [./] */
-    int64_t d;
-};
-
-int x_abc_pack(uint8_t *dst_p, const struct x_abc_t *src_p, size_t size);
-
-#endif
-";
-    assert!(rt; pair.header.ends_with(tail));
-    let source = b"/* Generated from a CAN database. Do not edit. */
-
-#include <string.h>
-
-#include \"x.h\"
-";
-    assert_eq!(rt; pair.source.as_slice(), source.as_slice());
     Ok(())
 }
