@@ -8,7 +8,7 @@ use std::process::Abort;
 use std::test::Fail;
 
 /// The source of `EXAMPLE`.
-pub(super) const EXAMPLE_SOURCE: &[u8] = b"/* Generated from a CAN database. Do not edit. */
+const EXAMPLE_SOURCE: &[u8] = b"/* Generated from a CAN database. Do not edit. */
 
 #include <string.h>
 
@@ -49,13 +49,25 @@ int example_example_pack(uint8_t *dst_p, const struct example_example_t *src_p, 
 /// A command over the files that stand by then, its status and its report.
 type Told = (&'static str, Status, &'static str);
 
-/// A database, its file's name without the ending, and what commands tell behind
-/// `generate_c_source`, in turn. `~` stands for the rest of a signal of which no more is said.
-const PAIRS: &[(&str, &str, &[Told])] = &[
-    (
-        "example",
-        EXAMPLE,
-        &[
+/// A database, and what is told of its pair.
+#[derive(Clone, Copy)]
+struct Pair {
+    /// The name of the database's file without its ending.
+    name: &'static str,
+    /// `~` stands for the rest of a signal of which no more is said.
+    text: &'static str,
+    /// The bytes of the source, where they are compared.
+    source: Option<&'static [u8]>,
+    /// The commands behind `generate_c_source`, in turn.
+    told: &'static [Told],
+}
+
+const PAIRS: &[Pair] = &[
+    Pair {
+        name: "example",
+        text: EXAMPLE,
+        source: Some(EXAMPLE_SOURCE),
+        told: &[
             ("check example.h example.c", Status::Done, "ok\n"),
             (
                 "exec example.h example.c lp64 example_example_pack raw:8 struct:enable=1,average_radius=32,temperature=55 int:8",
@@ -88,11 +100,12 @@ const PAIRS: &[(&str, &str, &[Told])] = &[
                 "return 8\narg 1: c006e00000000000--\narg 2: enable=1 average_radius=32 temperature=55\n",
             ),
         ],
-    ),
-    (
-        "edge",
-        "BO_ 513 Low: 2 X SG_ Mid : 6|10@1+~ BO_ 514 Big: 8 X SG_ All : 0|64@1+~ BO_ 515 Small: 1 X SG_ Level : 3|5@1+~ BO_ 516 Ping: 0 X",
-        &[
+    },
+    Pair {
+        name: "edge",
+        text: "BO_ 513 Low: 2 X SG_ Mid : 6|10@1+~ BO_ 514 Big: 8 X SG_ All : 0|64@1+~ BO_ 515 Small: 1 X SG_ Level : 3|5@1+~ BO_ 516 Ping: 0 X",
+        source: None,
+        told: &[
             ("check edge.h edge.c", Status::Done, "ok\n"),
             (
                 "exec edge.h edge.c lp64 edge_low_pack raw:2 struct:mid=677 int:2",
@@ -115,11 +128,12 @@ const PAIRS: &[(&str, &str, &[Told])] = &[
                 "return 0\n",
             ),
         ],
-    ),
-    (
-        "edge",
-        "BO_ 517 Names: 4 X SG_ True : 0|8@1+~ SG_ Default : 8|8@1+~ SG_ size : 16|8@1-~ SG_ memset : 24|8@1-~",
-        &[
+    },
+    Pair {
+        name: "edge",
+        text: "BO_ 517 Names: 4 X SG_ True : 0|8@1+~ SG_ Default : 8|8@1+~ SG_ size : 16|8@1-~ SG_ memset : 24|8@1-~",
+        source: None,
+        told: &[
             ("check edge.h edge.c", Status::Done, "ok\n"),
             (
                 "exec edge.h edge.c lp64 edge_names_pack raw:4 struct:true_2=1,default_2=2,size=-1,memset_2=-2 int:4",
@@ -127,17 +141,19 @@ const PAIRS: &[(&str, &str, &[Told])] = &[
                 "return 4\narg 1: 0102fffe\narg 2: true_2=1 default_2=2 size=-1 memset_2=-2\n",
             ),
         ],
-    ),
-    (
-        "edge",
-        "BO_ 1 A: 1 X SG_ S : 0|8@1+~ CM_ SG_ 1 S \"*/ int x;\" ;",
-        &[("check edge.h edge.c", Status::Done, "ok\n")],
-    ),
-    (
-        "edge",
-        "VERSION \"\" BU_: X",
-        &[("check edge.h edge.c", Status::Done, "ok\n")],
-    ),
+    },
+    Pair {
+        name: "edge",
+        text: "BO_ 1 A: 1 X SG_ S : 0|8@1+~ CM_ SG_ 1 S \"*/ int x;\" ;",
+        source: None,
+        told: &[("check edge.h edge.c", Status::Done, "ok\n")],
+    },
+    Pair {
+        name: "edge",
+        text: "VERSION \"\" BU_: X",
+        source: None,
+        told: &[("check edge.h edge.c", Status::Done, "ok\n")],
+    },
 ];
 
 /// Runs a command over these files, and compares.
@@ -162,7 +178,13 @@ fn told(
 #[test]
 fn pairs_are_checked_and_called(rt: HostRuntime) -> Result<(), Fail> {
     let alloc = rt.alloc();
-    for &(name, text, commands) in PAIRS {
+    for &pair in PAIRS {
+        let Pair {
+            name,
+            text,
+            source,
+            told: commands,
+        } = pair;
         let text = text.replace(alloc, "~", " (1,0) [0|0] \"\" X")?;
         let file = format!(in alloc; "{name}.dbc")?;
         let entries = [Entry {
@@ -173,6 +195,10 @@ fn pairs_are_checked_and_called(rt: HostRuntime) -> Result<(), Fail> {
         let command = format!(in alloc; "generate_c_source {file}")?;
         let report = format!(in alloc; "{name}.h\n{name}.c\n")?;
         told(&rt, alloc, &mut files, &command, Status::Done, &report)?;
+        if let Some(source) = source {
+            let written = format!(in alloc; "{name}.c")?;
+            assert_eq!(rt; files.file(written.as_bytes()), Some(source));
+        }
         for &(command, status, report) in commands {
             told(&rt, alloc, &mut files, command, status, report)?;
         }

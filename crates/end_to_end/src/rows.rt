@@ -1,6 +1,4 @@
 //! The rows.
-use crate::databases::EXAMPLE;
-use crate::pairs::EXAMPLE_SOURCE;
 use crate::table::{Row, check, check_all, plain};
 use cg_out::{Entry, Failing, MemoryFiles, MemorySink, Text};
 use cli_tool::{Status, Word, run};
@@ -153,15 +151,6 @@ const HEADERS: &[Row<'static>] = &[
         ],
     },
     Row {
-        words: "generate_c_source example.dbc",
-        files: &[("example.dbc", EXAMPLE.as_bytes())],
-        failing: &[],
-        sink_failing: &[],
-        status: Status::Done,
-        report: b"example.h\nexample.c\n",
-        left: &[("example.c", Some(EXAMPLE_SOURCE))],
-    },
-    Row {
         words: "generate_c_source in/.a/My-Bus.v2.dbc",
         files: &[(
             "in/.a/My-Bus.v2.dbc",
@@ -222,10 +211,7 @@ const FAILURES: &[Row<'static>] = &[
         sink_failing: &[],
         status: Status::FileFault,
         report: b"",
-        left: &[
-            ("can.h", Some(CAN_HEADER)),
-            ("can.c", Some(b"/* Generat")),
-        ],
+        left: &[("can.h", Some(CAN_HEADER)), ("can.c", Some(b"/* Generat"))],
     },
     Row {
         words: "generate_c_source can.dbc",
@@ -243,10 +229,7 @@ const FAILURES: &[Row<'static>] = &[
         sink_failing: &[Failing { call: 1, keep: 4 }],
         status: Status::OutFault,
         report: b"can.",
-        left: &[
-            ("can.h", Some(CAN_HEADER)),
-            ("can.c", Some(CAN_SOURCE)),
-        ],
+        left: &[("can.h", Some(CAN_HEADER)), ("can.c", Some(CAN_SOURCE))],
     },
 ];
 

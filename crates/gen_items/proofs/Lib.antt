@@ -1,4 +1,5 @@
 -- What is proved of them.
+pub mod HelpersCalled
 -- Such units have no fault of types.
 mod TypedWords
 mod TypedScope
@@ -11,6 +12,5 @@ pub mod TypedUnit
 -- Each pack function of such a unit packs its message.
 mod PackingPairs
 mod PackingStructs
-mod PackingHelpers
 mod PackingFunctions
 pub mod PackingUnit

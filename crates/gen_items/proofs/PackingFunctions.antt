@@ -23,7 +23,7 @@ use Rattle.gen_pack.proofs.OwnLocals.{and-left, and-right, flipped-names}
 use Rattle.gen_items.specs.ItemNames.{IsNoHelper}
 use Rattle.gen_items.specs.UnitItems.{declared_items, helper_items, defined_items}
 use Rattle.gen_items.proofs.PackingPairs.{other-name}
-use Rattle.gen_items.proofs.PackingHelpers.{HaveWidths}
+use Rattle.gen_items.proofs.HelpersCalled.{HaveWidths}
 
 -- what bare items define
 abbrev pub defined_by : List BareItem → List (List ℕ × Function)

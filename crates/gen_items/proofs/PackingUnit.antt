@@ -34,7 +34,7 @@ use Rattle.gen_items.specs.UnitItems.{helper_items, defined_items, unit_items}
 use Rattle.gen_items.specs.UnitPacks.{HasPack, HavePacks}
 use Rattle.gen_items.proofs.PackingPairs.{pairs-if, pair-is, first-among, second-among, names-of_pairs}
 use Rattle.gen_items.proofs.PackingStructs.{tag_of, finds-fields, finds-tag}
-use Rattle.gen_items.proofs.PackingHelpers.{called-widths, segment-called}
+use Rattle.gen_items.proofs.HelpersCalled.{called-widths, segment-called}
 use Rattle.gen_items.proofs.PackingFunctions.{defined_by, defines-none, finds-called, passes-helpers, pack_of, placeless_pack, finds-pack}
 
 module _ (messages : List Message) (names : List MessageNames) (named : AreNamed messages names) (u : Whole) (is : bare_unit u ≡ unit_items messages names) where

@@ -1,5 +1,5 @@
 -- Generated units have no fault of types under any data model: headers, helpers and pack functions in a row.
-use Rattle.std.proofs.Common.{◌≡◌, ℕ, suc, Bool, true, false, cond, List, [], ◌∷◌, ◌++◌, map, filter, Some, None, inl, inr, refl, sym, ap, subst, ◌∙◌, append-nil}
+use Rattle.std.proofs.Common.{◌≡◌, ℕ, suc, true, false, List, [], ◌∷◌, ◌++◌, map, Some, None, inl, inr, refl, sym, ap, subst, ◌∙◌, append-nil}
 use Rattle.std.specs.Prelude.{slice_get}
 use Rattle.std.specs.List.{zip, AllByRecursion}
 use Rattle.std.proofs.lemmas.List.{map-append}
@@ -26,7 +26,6 @@ use Rattle.c_alike.proofs.TypedUnits.{structs-both, functions-both, definitions-
 use Rattle.bit_layout.specs.declared.walk.Segment.{Segment}
 use Rattle.bit_layout.specs.Segments.{segments_of}
 use Rattle.shift_helpers.specs.declared.helper.HelperKind.{HelperKind}
-use Rattle.shift_helpers.specs.declared.helper.HelperKind.TheVariants as h
 use Rattle.shift_helpers.specs.HelperResult.{IsWidth}
 use Rattle.shift_helpers.specs.HelperTree.{helper_name, helper}
 use Rattle.gen_types.specs.HelperList.{helper_item, AreDifferent, every_helper}
@@ -49,10 +48,15 @@ use Rattle.gen_items.proofs.TypedScope.{some-kept, none-kept, some-behind}
 use Rattle.gen_items.proofs.TypedSignals.{IsCallable}
 use Rattle.gen_items.proofs.TypedBody.{CallsHelpers}
 use Rattle.gen_items.proofs.TypedFunction.{IsDeclared, function-typed}
-use Rattle.gen_items.proofs.TypedHelpers.{helpers-stay, of_kind, behind_left, unpacking, AreAmongOf, HasWidth, called-among}
+use Rattle.gen_items.proofs.HelpersCalled.{HaveWidths, called-widths}
+use Rattle.gen_items.proofs.TypedHelpers.{helpers-stay, AreAmongOf, called-among}
 use Rattle.gen_items.proofs.TypedHeader.{IsPast, past-later, past-first, past-rest, later-distinct, tags, packs, header, NewTags, NewFunctions, AreWords, header-typed, Stands, header-stands, header-defines, header-calls, header-no_helper}
 
 -- ---- widths
+
+-- a width of each signal
+abbrev HasWidth : Signal → Type 0
+HasWidth s = IsWidth (width_of s)
 
 -- of signals of a valid database
 widths-from : (xs : List Signal) → ((i : ℕ) (s : Signal) → slice_get xs i ≡ Some s → HasWidth s) → AllByRecursion HasWidth xs
@@ -61,23 +65,6 @@ widths-from (s ∷ xs) each = (each 0 s refl, widths-from xs (λ i t at. each (s
 
 all-wide : (m : Message) → IsOfValidDatabase m → AllByRecursion HasWidth m.signals
 all-wide m valid = widths-from m.signals (λ i s at. (let p = placed m i s valid at in (width-is s.length p.bits).0))
-
-abbrev HaveWidths : List (HelperKind × ℕ) → Type 0
-HaveWidths xs = AllByRecursion (λ (x : HelperKind × ℕ). IsWidth x.1) xs
-
-four-wide : (kind : HelperKind) (rest : List (HelperKind × ℕ)) → HaveWidths rest → HaveWidths (of_kind kind rest)
-four-wide kind rest have = (inl refl, (inr (inl refl), (inr (inr (inl refl)), (inr (inr (inr refl)), have))))
-
-every-wide : HaveWidths every_helper
-every-wide = four-wide h.PackLeft behind_left (four-wide h.PackRight unpacking (four-wide h.UnpackLeft (of_kind h.UnpackRight []) (four-wide h.UnpackRight [] tt)))
-
-wide-first : (b : Bool) (x : HelperKind × ℕ) (xs : List (HelperKind × ℕ)) → IsWidth x.1 → HaveWidths xs → HaveWidths (cond b (x ∷ xs) xs)
-wide-first true x xs first rest = (first, rest)
-wide-first false x xs first rest = rest
-
-filter-wide : (test : HelperKind × ℕ → Bool) (xs : List (HelperKind × ℕ)) → HaveWidths xs → HaveWidths (filter test xs)
-filter-wide test [] have = tt
-filter-wide test (x ∷ xs) have = wide-first (test x) x (filter test xs) have.0 (filter-wide test xs have.1)
 
 -- ---- helpers behind the header
 
@@ -222,10 +209,10 @@ module _ (messages : List Message) (names : List MessageNames) (named : AreNamed
   abbrev called : List (HelperKind × ℕ)
   called = called_helpers messages
 
-  sound-from : (xs : List Message) → ((m : Message) → Among m xs → AllByRecursion HasWidth m.signals → AllByRecursion (AreAmongOf called) m.signals) → AllByRecursion IsOfValidDatabase xs
+  sound-from : (xs : List Message) → ((m : Message) → Among m xs → AllByRecursion (AreAmongOf called) m.signals) → AllByRecursion IsOfValidDatabase xs
       → AllByRecursion (λ m. AllByRecursion HasNoParent (Message.signals m)) xs → AllByRecursion (IsSound called) xs
   sound-from [] each v f = tt
-  sound-from (m ∷ xs) each v f = (record { valid = v.0; flat = f.0; among = each m (inl refl) (all-wide m v.0) }, sound-from xs (λ x a. each x (inr a)) v.1 f.1)
+  sound-from (m ∷ xs) each v f = (record { valid = v.0; flat = f.0; among = each m (inl refl) }, sound-from xs (λ x a. each x (inr a)) v.1 f.1)
 
   grown-typed : (model : DataModel) → IsOneOf model → unit_faults model (record { items = map grown_item (unit_items messages names) }) ≡ []
   grown-typed model one =
@@ -234,7 +221,7 @@ module _ (messages : List Message) (names : List MessageNames) (named : AreNamed
       map-append grown_item (declared_items pairs) (helper_items called ++ defined_items (number 22) pairs)
       ∙ ap (λ (r : List Item). header messages names ++ r) (map-append grown_item (helper_items called) (defined_items (number 22) pairs) ∙ ap (λ (r : List Item). r ++ definitions_of messages names) (helpers-stay called)) in
       subst (λ items. unit_faults model (record { items = items }) ≡ []) (sym are)
-      (items-typed model one called messages names (filter-different (is_called messages) every_helper every-different) (filter-wide (is_called messages) every_helper every-wide) named.no_helpers named.each
+      (items-typed model one called messages names (filter-different (is_called messages) every_helper every-different) (called-widths messages) named.no_helpers named.each
       (record { distinct = named.tags.distinct; words = named.tags.words }) (record { distinct = named.functions.distinct; words = named.functions.words })
       (sound-from messages (called-among messages) valid flat))
 

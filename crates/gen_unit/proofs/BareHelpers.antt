@@ -1,5 +1,5 @@
 -- The helpers as trees without places, and that they may be printed.
-use Rattle.std.proofs.Common.{◌≡◌, ℕ, ◌≤◌, false, List, [], ◌∷◌, map, Some, None, refl, sym, ap, ◌∙◌, arith}
+use Rattle.std.proofs.Common.{◌≡◌, ℕ, false, List, Some, refl, ap, ◌∙◌, arith}
 use Rattle.std.specs.Prelude.{codes}
 use Rattle.name_rules.specs.Reserved.{keywords, given_names, sized_types}
 use Rattle.c_text.specs.declared.token.Spelled.TheVariants.{Exact}
@@ -10,15 +10,15 @@ use Rattle.c_tree.specs.BareStatement.{Actions, return, no_more, then}
 use Rattle.c_tree.specs.BareUnit.{BareItem, bare_head, bare_item, function}
 use Rattle.c_effect.proofs.BareNodes.{bare-Name, bare-Cast, bare-Binary, bare-Bracket, bare-Return}
 use Rattle.c_printed.specs.Expanded.{expanded, expanded_item}
-use Rattle.c_printed.specs.Printable.{IsFree, IsWidth, w8, w16, w32, w64, Fits}
+use Rattle.c_printed.specs.Printable.{IsWidth, w8}
 use Rattle.c_printed.specs.PrintableItem.{IsHead, FitsBody}
 use Rattle.c_printed.specs.Settled.{Settles, SettlesItem}
 use Rattle.c_printed.specs.State.{State, becomes, meaning}
-use Rattle.c_printed.specs.Within.{Within, ItemWithin}
+use Rattle.c_printed.specs.Within.{ItemWithin}
 use Rattle.shift_helpers.specs.declared.helper.HelperKind.{HelperKind}
 use Rattle.shift_helpers.specs.declared.helper.HelperKind.TheVariants as h
 use Rattle.shift_helpers.specs.HelperResult.{taken_width, given_width}
-use Rattle.shift_helpers.specs.HelperTree.{nowhere, name_of, cast_of, packed, unpacked, returned, helper_name, helper}
+use Rattle.shift_helpers.specs.HelperTree.{nowhere, packed, unpacked, returned, helper_name, helper}
 use Rattle.gen_types.specs.HelperList.{helper_item}
 use Rattle.gen_printed.proofs.Settling.{alone}
 use Rattle.gen_unit.proofs.OwnNames.{IsOwn, is-own, name-stands, exact-stands}

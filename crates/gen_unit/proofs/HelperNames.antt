@@ -1,5 +1,5 @@
 -- The helpers' names: no macro and no header gives them, and no pack function has one of them.
-use Rattle.std.proofs.Common.{◌≡◌, ◌≢◌, ℕ, false, List, inl, inr, refl, sym, ap, ◌∙◌, arith}
+use Rattle.std.proofs.Common.{◌≡◌, ◌≢◌, ℕ, List, inl, inr, refl, ap, ◌∙◌, arith}
 use Rattle.std.specs.Str.{bytes_eq}
 use Rattle.std.proofs.lemmas.Bool.{false_from_ne_true}
 use Rattle.std.proofs.lemmas.Slice.Eq.{bytes_eq-Decides}

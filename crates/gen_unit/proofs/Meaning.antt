@@ -1,5 +1,5 @@
 -- The header's parts may be printed, and leave its items and its macros.
-use Rattle.std.proofs.Common.{◌≡◌, ℕ, true, false, List, [], ◌∷◌, ◌++◌, map, Some, None, refl, sym, ap, subst, ◌∙◌, arith, length-append}
+use Rattle.std.proofs.Common.{◌≡◌, ℕ, true, false, List, [], ◌∷◌, ◌++◌, map, Some, None, refl, ap, subst, arith, length-append}
 use Rattle.std.specs.Prelude.{codes}
 use Rattle.std.specs.List.{AllByRecursion, flat_map, zip}
 use Rattle.std.proofs.lemmas.Bool.Decides.{nat_tests}
@@ -18,11 +18,8 @@ use Rattle.c_text.proofs.PrintedLines.{bytes-in_string, bytes-plain}
 use Rattle.c_tree.specs.BareUnit.{BareItem}
 use Rattle.c_printed.specs.PrintedUnit.{end_if}
 use Rattle.c_printed.specs.Within.{ItemWithin}
-use Rattle.c_printed.specs.State.{nothing_known}
 use Rattle.c_printed.specs.PrintableUnit.{IsBeside, Balanced, IsHeaderAt}
-use Rattle.c_printed.specs.Reread.{header_items, macro_tokens}
-use Rattle.c_printed.specs.Law.{ReadAsUnit}
-use Rattle.c_recut.proofs.PairLaw.{header-reads}
+use Rattle.c_printed.specs.Reread.{macro_tokens}
 use Rattle.gen_pack.specs.PackTree.{error_name}
 use Rattle.gen_unit.specs.Header.{number, all_message_parts, header_parts, header_name}
 use Rattle.gen_unit.specs.Macros.{Macro, constants_of, macros_of}

@@ -1,6 +1,6 @@
 -- A message's struct and prototype may be printed, where its names are its own.
-use Rattle.std.proofs.Common.{◌≡◌, ℕ, Bool, true, false, ◌||◌, List, [], ◌∷◌, ◌++◌, map, None, refl, ap, ◌∙◌}
-use Rattle.std.specs.Prelude.{nat_le, codes}
+use Rattle.std.proofs.Common.{◌≡◌, ℕ, true, false, ◌||◌, List, [], ◌∷◌, ◌++◌, map, None, refl, ap, ◌∙◌}
+use Rattle.std.specs.Prelude.{codes}
 use Rattle.std.specs.List.{AllByRecursion, flat_map}
 use Rattle.can_model.specs.declared.database.Signal.{Signal}
 use Rattle.can_model.specs.RawValue.{field_bits}
@@ -12,7 +12,7 @@ use Rattle.name_rules.specs.Names.{is_c_name, AreApart}
 use Rattle.c_tree.specs.BareUnit.{BareField, struct, function}
 use Rattle.c_printed.specs.PrintedItem.{Field}
 use Rattle.c_printed.specs.PrintedItem as item
-use Rattle.c_printed.specs.Printable.{IsWidth, w8, w16, w32, w64}
+use Rattle.c_printed.specs.Printable.{w8}
 use Rattle.c_printed.specs.PrintableItem.{IsField, IsSome, IsHead}
 use Rattle.c_printed.specs.Settled.{NamedStands, SettlesItem}
 use Rattle.c_printed.specs.State.{State, becomes, meaning}

@@ -12,7 +12,7 @@ use Rattle.c_tree.specs.Symbol.{keyword_in}
 use Rattle.c_tree.specs.BareExpression.{Tree, bracket}
 use Rattle.c_tree.specs.BareUnit.{BareItem, struct, function}
 use Rattle.c_printed.specs.PrintedUnit.{Part, comment, blank, include, define, if_not_defined, end_if, routine}
-use Rattle.c_printed.specs.Printable.{IsFree, IsConstant, ten, sixteen}
+use Rattle.c_printed.specs.Printable.{IsFree, IsConstant, sixteen}
 use Rattle.c_printed.specs.PrintableItem.{IsShown}
 use Rattle.c_printed.specs.State.{Macro, State, header_named, listed, unless_known, with_macros, with_headers}
 use Rattle.c_printed.specs.PrintableUnit.{IsBody, IsSame, IsKnown, AllRight, no_header}

@@ -1,6 +1,6 @@
 -- The pair is faithful: header and source may be printed, what is printed reads back, and the unit that is read has what is asked of it.
-use Rattle.std.proofs.Common.{◌≡◌, ℕ, Bool, true, false, List, [], ◌∷◌, ◌++◌, map, Some, refl, sym, ap, subst, append-nil, ◌∙◌}
-use Rattle.std.specs.List.{AllByRecursion, flat_map, zip}
+use Rattle.std.proofs.Common.{◌≡◌, ℕ, Bool, List, [], ◌∷◌, ◌++◌, map, Some, refl, sym, ap, subst, append-nil, ◌∙◌}
+use Rattle.std.specs.List.{AllByRecursion, zip}
 use Rattle.can_model.specs.declared.database.Database.{Database}
 use Rattle.can_model.specs.declared.database.Message.{Message}
 use Rattle.can_model.specs.Validity.{IsOfValidDatabase}
@@ -10,10 +10,8 @@ use Rattle.name_rules.specs.IsIdentifier.{IsIdentifier}
 use Rattle.name_rules.specs.Symbols.{AllPairs, HasNamesOfMessage, AreSymbols}
 use Rattle.name_rules.proofs.TableApart.{symbols-apart}
 use Rattle.c_text.specs.StandardHeader.{Header, string_h}
-use Rattle.c_tree.specs.BareStatement.{Actions}
-use Rattle.c_tree.specs.BareUnit.{BareField, BareHead, BareItem, bare_item}
-use Rattle.c_printed.specs.Expanded.{expanded_item}
-use Rattle.c_printed.specs.State.{State, meaning, header_state}
+use Rattle.c_tree.specs.BareUnit.{BareField, BareHead, BareItem}
+use Rattle.c_printed.specs.State.{State, header_state}
 use Rattle.c_printed.specs.Within.{ItemWithin}
 use Rattle.c_printed.specs.PrintableUnit.{IsHeaderAt, IsSource}
 use Rattle.c_printed.specs.Reread.{header_items, source_items as items_read, header_macros, source_macros, macro_tokens}
@@ -24,14 +22,14 @@ use Rattle.gen_pack.specs.StructFields.{struct_fields}
 use Rattle.gen_pack.specs.Switches.{HasNoParent}
 use Rattle.gen_pack.specs.PackTree.{number, pack_head}
 use Rattle.gen_items.specs.CalledHelpers.{called_helpers}
-use Rattle.gen_items.specs.UnitItems.{message_items, declared_items, helper_items, defined_items, unit_items}
+use Rattle.gen_items.specs.UnitItems.{declared_items, helper_items, defined_items, unit_items}
 use Rattle.gen_items.specs.ItemNames.{AreNamed}
 use Rattle.gen_items.proofs.TypedUnit.{unit-typed}
 use Rattle.gen_items.proofs.PackingUnit.{unit-packs}
 use Rattle.gen_unit.specs.Comments.{opening_text}
 use Rattle.gen_unit.specs.Items.{structs_of, functions_of}
 use Rattle.gen_unit.specs.Header.{header_parts, header_text, header_name}
-use Rattle.gen_unit.specs.Source.{string_header, separated, source_items, source_parts, source_text}
+use Rattle.gen_unit.specs.Source.{string_header, source_items, source_parts, source_text}
 use Rattle.gen_unit.specs.Macros.{macros_of}
 use Rattle.gen_unit.specs.Small.{AreSmall}
 use Rattle.gen_unit.specs.Surface.{structs_in, prototypes_in, definitions_in, not_static}

@@ -1,16 +1,15 @@
 -- The functions of a source may be printed, and leave their items: helpers as they are, pack functions with the error's number.
-use Rattle.std.proofs.Common.{◌≡◌, ℕ, Bool, true, false, List, [], ◌∷◌, ◌++◌, map, Option, Some, None, refl, sym, ap, subst, ◌∙◌, arith}
-use Rattle.std.specs.List.{AllByRecursion, filter, zip}
-use Rattle.std.proofs.lemmas.Bool.{cond_both}
+use Rattle.std.proofs.Common.{◌≡◌, ℕ, List, [], ◌∷◌, ◌++◌, map, Option, inl, inr, refl, sym, ap, subst, ◌∙◌}
+use Rattle.std.specs.List.{AllByRecursion, zip}
 use Rattle.std.proofs.lemmas.List.{map-append}
 use Rattle.can_model.specs.declared.database.Message.{Message}
 use Rattle.can_model.specs.Validity.{IsOfValidDatabase}
 use Rattle.name_rules.specs.declared.table.MessageNames.{MessageNames}
 use Rattle.c_tree.specs.BareExpression.{name}
 use Rattle.c_tree.specs.BareUnit.{BareItem, bare_item, struct, function}
-use Rattle.c_printed.specs.PrintedUnit.{blank, routine}
 use Rattle.c_printed.specs.Expanded.{expanded_item}
-use Rattle.c_printed.specs.Printable.{IsWidth, w8, w16, w32, w64}
+use Rattle.c_printed.specs.Printable.{w8, w16, w32, w64}
+use Rattle.c_printed.specs.Printable as printed
 use Rattle.c_printed.specs.PrintableItem.{IsHead, FitsBody}
 use Rattle.c_printed.specs.PrintableUnit.{AllRight, Balanced}
 use Rattle.c_printed.specs.Reread as reread
@@ -18,15 +17,17 @@ use Rattle.c_printed.specs.Settled.{SettlesItem}
 use Rattle.c_printed.specs.State.{Macro, State, becomes, meaning}
 use Rattle.c_printed.specs.Within.{ItemWithin}
 use Rattle.shift_helpers.specs.declared.helper.HelperKind.{HelperKind}
-use Rattle.gen_types.specs.HelperList.{helper_item, every_helper}
+use Rattle.shift_helpers.specs.HelperResult.{IsWidth}
+use Rattle.gen_types.specs.HelperList.{helper_item}
 use Rattle.gen_pack.specs.Switches.{HasNoParent}
 use Rattle.gen_pack.specs.PackTree.{error_name, number, pack_function}
 use Rattle.gen_pack.proofs.Expanding.{error-is-22}
 use Rattle.gen_printed.proofs.Settling.{pack-settles}
 use Rattle.gen_printed.proofs.Fitting.{pack-fits, head-fits}
 use Rattle.gen_printed.proofs.Room.{pack-within}
-use Rattle.gen_items.specs.CalledHelpers.{is_called, called_helpers}
+use Rattle.gen_items.specs.CalledHelpers.{called_helpers}
 use Rattle.gen_items.specs.UnitItems.{helper_items, defined_items}
+use Rattle.gen_items.proofs.HelpersCalled.{HaveWidths, called-widths}
 use Rattle.gen_unit.specs.Source.{separated, source_items}
 use Rattle.gen_unit.proofs.BareHelpers.{helper-is, helper-head, helper-fits, helper-within, helper-settles, helper-stays}
 use Rattle.gen_unit.proofs.MessageItems.{HasOwnNames}
@@ -67,29 +68,23 @@ separated-balanced s (function head body ∷ items) h = separated-balanced s ite
 
 -- ---- of what a source has
 
--- the widths of all helpers
-abbrev IsOfWidth : HelperKind × ℕ → Type 0
-IsOfWidth h = IsWidth h.1
-
-all-widths : AllByRecursion IsOfWidth every_helper
-all-widths = (w8, (w16, (w32, (w64, (w8, (w16, (w32, (w64, (w8, (w16, (w32, (w64, (w8, (w16, (w32, (w64, tt))))))))))))))))
-
-module _ (P : HelperKind × ℕ → Type 0) (test : HelperKind × ℕ → Bool) where
-  all-filter : (hs : List (HelperKind × ℕ)) → AllByRecursion P hs → AllByRecursion P (filter test hs)
-  all-filter [] all = tt
-  all-filter (h ∷ hs) all = cond_both (test h) (h ∷ filter test hs) (filter test hs) (AllByRecursion P) (λ e. (all.0, all-filter hs all.1)) (λ e. all-filter hs all.1)
-
-pub called-widths : (ms : List Message) → AllByRecursion IsOfWidth (called_helpers ms)
-called-widths ms = all-filter IsOfWidth (is_called ms) every_helper all-widths
+-- the widths of helpers, as their text needs them
+printed-of : (w : ℕ) → IsWidth w → printed.IsWidth w
+printed-of w (inl e) = subst printed.IsWidth (sym e) w8
+printed-of w (inr (inl e)) = subst printed.IsWidth (sym e) w16
+printed-of w (inr (inr (inl e))) = subst printed.IsWidth (sym e) w32
+printed-of w (inr (inr (inr e))) = subst printed.IsWidth (sym e) w64
 
 abbrev AreFlat : List Message → Type 0
 AreFlat ms = AllByRecursion (λ m. AllByRecursion HasNoParent (Message.signals m)) ms
 
 module _ (s : State) (k : KnowsSource s) where
   helper-printable : (kind : HelperKind) (w : ℕ) → IsWidth w → IsPrintable s (bare_item (helper_item (kind, w)))
-  helper-printable kind w iw = subst (IsPrintable s) (sym (helper-is kind w)) (helper-head kind w iw, helper-fits kind w iw, helper-settles s k kind w iw)
+  helper-printable kind w iw =
+      let width = printed-of w iw in
+      subst (IsPrintable s) (sym (helper-is kind w)) (helper-head kind w width, helper-fits kind w width, helper-settles s k kind w width)
 
-  helpers-printable : (hs : List (HelperKind × ℕ)) → AllByRecursion IsOfWidth hs → AllByRecursion (IsPrintable s) (helper_items hs)
+  helpers-printable : (hs : List (HelperKind × ℕ)) → HaveWidths hs → AllByRecursion (IsPrintable s) (helper_items hs)
   helpers-printable [] iw = tt
   helpers-printable (h ∷ hs) iw = (helper-printable h.0 h.1 iw.0, helpers-printable hs iw.1)
 
@@ -111,7 +106,7 @@ module _ (s : State) (k : KnowsSource s) where
   helpers-stay [] = refl
   helpers-stay (h ∷ hs) =
       let here : expanded_item (meaning s) (bare_item (helper_item h)) ≡ bare_item (helper_item h) =
-          ap (expanded_item (meaning s)) (helper-is h.0 h.1) ∙ helper-stays s k h.0 h.1 ∙ sym (helper-is h.0 h.1) in
+      ap (expanded_item (meaning s)) (helper-is h.0 h.1) ∙ helper-stays s k h.0 h.1 ∙ sym (helper-is h.0 h.1) in
       rw (here, helpers-stay hs) refl
 
   packs-with_error : (ms : List Message) (ns : List MessageNames) → AllByRecursion HasOwnNames ns → AreFlat ms

@@ -1,5 +1,5 @@
 -- Behind its includes a source knows what its functions need: the names of the headers, `memset`, and the error's number.
-use Rattle.std.proofs.Common.{◌≡◌, ℕ, Bool, true, false, ◌||◌, List, [], ◌∷◌, ◌++◌, map, Option, Some, None, refl, sym, ap, subst, ◌∙◌, cond}
+use Rattle.std.proofs.Common.{◌≡◌, ℕ, false, List, [], ◌∷◌, ◌++◌, map, Some, None, refl, sym, ap, subst, ◌∙◌}
 use Rattle.std.specs.Prelude.{codes}
 use Rattle.std.specs.List.{AllByRecursion}
 use Rattle.std.specs.Str.{bytes_eq}
@@ -9,13 +9,13 @@ use Rattle.can_model.specs.declared.database.Message.{Message}
 use Rattle.name_rules.specs.declared.table.SymbolTable.{SymbolTable}
 use Rattle.name_rules.specs.declared.table.MessageNames.{MessageNames}
 use Rattle.name_rules.specs.declared.table.SignalNames.{SignalNames}
-use Rattle.name_rules.specs.Symbols.{field_names, local_names}
+use Rattle.name_rules.specs.Symbols.{local_names}
 use Rattle.c_text.specs.declared.token.TokenKind.TheVariants as kind
 use Rattle.c_text.specs.StandardHeader.{Header, string_h, kind_in}
 use Rattle.c_tree.specs.declared.expression.Callee.TheVariants.{Memset}
 use Rattle.c_printed.specs.Printable.{IsFree}
 use Rattle.c_printed.specs.Settled.{Stands, CalleeStands}
-use Rattle.c_printed.specs.State.{Macro, State, becomes, meaning, word_by, tree_by, constant_by, kind_by_headers, header_state}
+use Rattle.c_printed.specs.State.{Macro, State, becomes, meaning, word_by, tree_by, kind_by_headers, header_state}
 use Rattle.shift_helpers.specs.HelperTree.{helper_name}
 use Rattle.gen_pack.specs.PackTree.{error_name, buffer, source, size}
 use Rattle.gen_pack.specs.Packs.{HasError}

@@ -11,9 +11,7 @@ ghost use Rattle.gen_unit.specs.Header as header;
 ghost use Rattle.gen_unit.specs.Source as spec;
 
 use crate::helpers::put_helpers;
-use crate::parts::{
-    put_blank, put_function, put_include, put_include_beside, put_opening_comment,
-};
+use crate::parts::{put_blank, put_function, put_include, put_include_beside, put_opening_comment};
 use c_printer::{Part, PrintUnit};
 use can_model::Message;
 use cg_out::{List, Memory};

@@ -1,4 +1,4 @@
-use Rattle.std.proofs.Common.{◌≡◌, ◌∷◌, [], ◌++◌, length}
+use Rattle.std.proofs.Common.{◌≡◌, ◌++◌, length}
 use Rattle.c_printer.specs.BarePart.{bare_parts}
 use Rattle.gen_pack.proofs.InPairs.{put_by}
 use Rattle.gen_unit.proofs.CalledParts.{parts_of_message}
