@@ -10,7 +10,6 @@ use Rattle.can_model.specs.declared.database.Message.{Message}
 use Rattle.can_model.specs.Frame.{IsFrame, AreRawValues}
 use Rattle.name_rules.specs.declared.table.SymbolTable.{SymbolTable}
 use Rattle.name_rules.proofs.OneTable.{one-table}
-use Rattle.gen_unit.specs.Header.{header_text}
 use Rattle.frame_codec.proofs.OneFrame.{one_frame, one_reading}
 use Rattle.codec_words.specs.NamedValues.{values_of}
 use Rattle.codec_words.specs.Reports.{frame_report, IsFrameReport, value_lines, IsValuesReport}
@@ -19,7 +18,7 @@ use Rattle.db_text.specs.DatabaseOfText.{DatabaseRefusal, in_text, Spells}
 use Rattle.db_text.proofs.OneAnswer.{one_answer}
 use Rattle.cli_tool.specs.FileName.{database_name, is_sym}
 use Rattle.cli_tool.specs.DatabaseInFile.{not_yet, GivesDatabase, AnswersGiven, HasAnswer, TextAnswers, database_task}
-use Rattle.cli_tool.specs.GenerateTask.{header_output, WritesHeader}
+use Rattle.cli_tool.specs.GenerateTask.{pair_outputs, WritesPair}
 use Rattle.cli_tool.specs.CodecTasks.{told_report, TellsFrame, TellsValuesOf, TellsValues}
 use Rattle.cli_tool.specs.Command.{Command, generate_c_source, check, exec, encode, decode}
 use Rattle.cli_tool.specs.Ends.{task_found}
@@ -54,10 +53,10 @@ module _ (Answers : Database → Answer → Type 0) (one : IsOneAnswer Answers) 
 
 -- ---- of each command
 
-one_header : (file : List ℕ) → IsOneAnswer (WritesHeader file)
-one_header file db a b (x, h, e) (y, k, d) =
+one_pair : (file : List ℕ) → IsOneAnswer (WritesPair file)
+one_pair file db a b (x, h, e) (y, k, d) =
     let same : y ≡ x = one-table db (database_name file) false x y h k in
-    e ∙ ap (λ (names : SymbolTable). outcome true (header_output file (header_text db.messages names) ∷ []) (written_report file)) (sym same) ∙ sym d
+    e ∙ ap (λ (names : SymbolTable). outcome true (pair_outputs file db names) (written_report file)) (sym same) ∙ sym d
 
 one_report : (m : Message) (words : List (List ℕ)) (a b : Option (List ℕ)) → IsFrameReport m words a → IsFrameReport m words b → a ≡ b
 one_report m words a b = by_values (values_of m words) where
@@ -117,7 +116,7 @@ of_one_database Answers file one = within_limits (database_task Answers file) (o
 
 pub decided : (command : Option Command) → IsDecided (task_found command)
 decided None = within_limits (task_found None) (λ texts a b h k. h ∙ sym k)
-decided (Some (generate_c_source file)) = of_one_database (WritesHeader file) file (one_header file)
+decided (Some (generate_c_source file)) = of_one_database (WritesPair file) file (one_pair file)
 decided (Some (check header source)) = within_limits (task_found (Some (check header source))) (λ texts a b h k. h ∙ sym k)
 decided (Some (exec header source model function words)) = within_limits (task_found (Some (exec header source model function words))) (λ texts a b h k. h ∙ sym k)
 decided (Some (encode file message words)) = of_one_database (TellsFrame message words) file (one_told message words)

@@ -5,7 +5,7 @@ pub mod TextsRead
 pub mod FilesWritten
 pub mod Endings
 pub mod Comes
-pub mod Headers
+pub mod Pairs
 pub mod FaultlessUnits
 pub mod Decided
 pub mod Answering

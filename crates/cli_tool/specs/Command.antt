@@ -9,7 +9,7 @@ use Rattle.command_words.specs.NumberWord.{is_number}
 use Rattle.c_widths.specs.DataModel.{DataModel, ilp32, lp64}
 
 pub data Command : Type 0 where
-  -- the C header of the database in this file
+  -- the C header and the C source of the database in this file
   generate_c_source : (file : List ℕ) → Command
   -- whether the C texts in these files have a fault
   check : (header source : List ℕ) → Command

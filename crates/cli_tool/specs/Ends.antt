@@ -11,7 +11,7 @@ use Rattle.cli_tool.specs.ExecTask.{exec_task}
 use Rattle.cli_tool.specs.CodecTasks.{encode_task, decode_task}
 use Rattle.cli_tool.specs.TaskEnds.{TaskEnds}
 use Rattle.cli_tool.specs.MustCome.{MustCome}
-use Rattle.cli_tool.specs.HeaderOfFile.{HeaderStands}
+use Rattle.cli_tool.specs.PairOfFile.{PairStands}
 use Rattle.cli_tool.specs.declared.status.Status.{Status}
 
 abbrev pub task_of : Command → Task
@@ -36,10 +36,10 @@ Ends words old new status = TaskEnds (task_asked words) old new status
 abbrev pub Comes : List (List ℕ) → World → World → Status → Type 0
 Comes words old new status = MustCome (task_asked words) old new status
 
-abbrev pub HeaderOfCommand : Option Command → World → World → Status → Type 0
-HeaderOfCommand (Some (generate_c_source file)) old new status = HeaderStands file old.files new.files status
-HeaderOfCommand command old new status = Unit {0}
+abbrev pub PairOfCommand : Option Command → World → World → Status → Type 0
+PairOfCommand (Some (generate_c_source file)) old new status = PairStands file old.files new.files status
+PairOfCommand command old new status = Unit {0}
 
--- what `generate_c_source` leaves in the files is a header of the text's database
-abbrev pub IsHeader : List (List ℕ) → World → World → Status → Type 0
-IsHeader words old new status = HeaderOfCommand (command_of words) old new status
+-- what `generate_c_source` leaves in the files is a header and a source of the text's database
+abbrev pub IsPair : List (List ℕ) → World → World → Status → Type 0
+IsPair words old new status = PairOfCommand (command_of words) old new status

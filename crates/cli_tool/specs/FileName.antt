@@ -22,6 +22,10 @@ database_name path = identifier_of (stem_of (base_name path))
 unfoldable pub header_path : List ℕ → List ℕ
 header_path path = database_name path ++ codes ".h"
 
+-- the file that the source is written to
+unfoldable pub source_path : List ℕ → List ℕ
+source_path path = database_name path ++ codes ".c"
+
 -- the path ends in `.sym`, in any case of letters
 unfoldable pub is_sym : List ℕ → Bool
 is_sym path = bytes_eq (map to_ascii_lowercase (drop (length path - 4) path)) (codes ".sym")

@@ -10,7 +10,7 @@ pub mod Writing
 pub mod Telling
 pub mod TaskEnds
 pub mod MustCome
-pub mod HeaderOfFile
+pub mod PairOfFile
 pub mod Command
 pub mod GenerateTask
 pub mod CheckTask

@@ -6,14 +6,14 @@ use Rattle.can_model.specs.Refusal.{Refusal, number_of, name_of}
 use Rattle.can_model.specs.CheckRefusal.{check_number, check_name}
 use Rattle.can_model.specs.Validity.{Fault}
 use Rattle.c_text.specs.Refusal as c
-use Rattle.cli_tool.specs.FileName.{header_path}
+use Rattle.cli_tool.specs.FileName.{header_path, source_path}
 
 unfoldable pub usage_report : List ℕ
 usage_report = codes "cantoolc: wrong words\n"
 
--- the name of the file that was written
+-- the names of the files that were written, the header's first
 unfoldable pub written_report : List ℕ → List ℕ
-written_report file = header_path file ++ codes "\n"
+written_report file = header_path file ++ codes "\n" ++ source_path file ++ codes "\n"
 
 -- two C texts have no fault
 unfoldable pub fine_report : List ℕ

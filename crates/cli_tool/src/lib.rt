@@ -2,7 +2,7 @@
 //! the whole program.
 //!
 //! ```text
-//! run(alloc, &words, &mut files, &mut out)   // Status::Done, and the header stands in its file
+//! run(alloc, &words, &mut files, &mut out)   // Status::Done, and the pair is written
 //! ```
 #![tactic(auto)]
 

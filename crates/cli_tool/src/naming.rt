@@ -1,7 +1,7 @@
 //! What the name of a file says.
-ghost use Rattle.std.specs.Prelude.{◌≡◌, ◌-◌, length, drop, map, IfOk};
+ghost use Rattle.std.specs.Prelude.{◌≡◌, ◌-◌, ◌++◌, length, drop, map, IfOk};
 ghost use Rattle.std.specs.Char.{to_ascii_lowercase};
-ghost use Rattle.cli_tool.specs.FileName.{base_name, stem_of, database_name, header_path, is_sym};
+ghost use Rattle.cli_tool.specs.FileName.{base_name, stem_of, database_name, header_path, source_path, is_sym};
 
 use cg_out::{Memory, Text};
 use command_words::up_to_last_of;
@@ -36,9 +36,24 @@ pub fn name(alloc: Global, path: &[u8]) -> Result<Text, Memory>
 pub fn header_file(alloc: Global, path: &[u8]) -> Result<Vec<u8>, Memory>
     ensures { IfOk result (λ v. v.items ≡ header_path path.now) }
 {
+    named_file(alloc, path, b".h")
+}
+
+/// The file that the source is written to.
+#[tactic(auto, unfolding(crate::specs::FileName::source_path))]
+pub fn source_file(alloc: Global, path: &[u8]) -> Result<Vec<u8>, Memory>
+    ensures { IfOk result (λ v. v.items ≡ source_path path.now) }
+{
+    named_file(alloc, path, b".c")
+}
+
+/// The name of the database and an ending.
+fn named_file(alloc: Global, path: &[u8], ending: &[u8]) -> Result<Vec<u8>, Memory>
+    ensures { IfOk result (λ v. v.items ≡ database_name path.now ++ ending.now) }
+{
     let name = name(alloc, path)?;
     let mut file = Vec::from_slice(alloc, name.bytes())?;
-    file.extend_from_slice(b".h")?;
+    file.extend_from_slice(ending)?;
     Ok(file)
 }
 

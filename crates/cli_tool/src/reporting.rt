@@ -2,7 +2,7 @@
 ghost use Rattle.std.specs.Prelude.{◌≡◌, ◌++◌, map, IfOk, OnOk};
 ghost use Rattle.cli_tool.specs.Report.{usage_report, written_report, fine_report, text_named, refused_report, refusal_report, shown_byte, marked, fault_report, c_refusal_report};
 
-use crate::naming::header_file;
+use crate::naming::{header_file, source_file};
 use c_mean::{CKind, Place};
 use can_model::{CheckKind, TextKind};
 use cg_out::Memory;
@@ -17,14 +17,16 @@ pub fn usage() -> &'static [u8]
     b"cantoolc: wrong words\n"
 }
 
-/// The report of a header that was written.
+/// The report of a header and a source that were written.
 #[tactic(auto, unfolding(crate::specs::Report::written_report))]
 pub fn written(alloc: Global, file: &[u8]) -> Result<Vec<u8>, Memory>
     ensures { IfOk result (λ v. v.items ≡ written_report file.now) }
 {
-    let mut name = header_file(alloc, file)?;
-    name.push(b'\n')?;
-    Ok(name)
+    let mut names = header_file(alloc, file)?;
+    names.push(b'\n')?;
+    names.extend_from_slice(&source_file(alloc, file)?)?;
+    names.push(b'\n')?;
+    Ok(names)
 }
 
 /// The report of texts without a fault.
