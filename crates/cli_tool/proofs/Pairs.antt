@@ -63,7 +63,7 @@ module _ (file text : List ℕ) (answer : Answer) where
 
 -- ---- which of two writes is torn
 
-tail_of : List Output → List Output
+abbrev tail_of : List Output → List Output
 tail_of [] = []
 tail_of (x ∷ xs) = xs
 
