@@ -1,0 +1,3 @@
+-- What is proved of them.
+mod OneLevel
+mod Bodies
