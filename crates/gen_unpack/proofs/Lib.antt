@@ -1,3 +1,8 @@
 -- What is proved of them.
 mod OneLevel
 mod Bodies
+mod SegmentParts
+mod Sums
+mod Signs
+mod Widths
+mod FieldChanges
