@@ -6,3 +6,4 @@ mod Sums
 mod Signs
 mod Widths
 mod FieldChanges
+mod Joining
