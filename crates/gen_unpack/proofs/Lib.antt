@@ -7,3 +7,4 @@ mod Signs
 mod Widths
 mod FieldChanges
 mod Joining
+mod Extending
