@@ -8,3 +8,4 @@ mod Widths
 mod FieldChanges
 mod Joining
 mod Extending
+mod Reading

@@ -65,7 +65,7 @@ pub record IsSigned (w n : ℕ) (shorter top : Bool) (x : ℕ) : Type 0 where
   pub wraps : wrap true w (pos (carried w n shorter top x)) ≡ pos x -ℤ pos (sign_of n top)
   pub stays : wrap true w (pos x -ℤ pos (sign_of n top)) ≡ pos x -ℤ pos (sign_of n top)
 
-nothing-off : (x : ℕ) → pos x -ℤ pos 0 ≡ pos x
+pub nothing-off : (x : ℕ) → pos x -ℤ pos 0 ≡ pos x
 nothing-off x = omega (arith, ints)
 
 taken-off : (x p : ℕ) → x < p → pos x -ℤ pos p ≡ negsuc (p - 1 - x)
