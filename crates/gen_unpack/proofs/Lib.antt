@@ -9,3 +9,9 @@ mod FieldChanges
 mod Joining
 mod Extending
 mod Reading
+mod Declarations
+mod Steps
+mod RawFields
+mod Running
+mod Expanding
+mod Anywhere
