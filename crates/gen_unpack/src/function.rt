@@ -6,9 +6,11 @@ ghost use Rattle.c_tree.specs.BareUnit.{bare_field, bare_body, bare_item, functi
 ghost use Rattle.c_tree.specs.BareExpression.{name};
 ghost use Rattle.c_tree.specs.BareStatement.{bare_statement};
 ghost use Rattle.c_tree.specs.declared.item.Item.TheVariants.{Function as AFunction};
+ghost use Rattle.gen_pack.specs.Named.{IsNamed};
 ghost use Rattle.gen_pack.specs.Switches.{HasNoParent};
 ghost use Rattle.gen_pack.specs.PackTree as pack;
 ghost use Rattle.gen_unpack.specs.UnpackTree as spec;
+ghost use Rattle.gen_unpack.specs.Unpacks.{UnpacksAs};
 
 use crate::body::{empty_body, long_body, size};
 use crate::nodes::nowhere;
@@ -106,6 +108,14 @@ fn whole(alloc: Global, message: &Message, names: &MessageNames) -> Result<Funct
 }
 
 /// The unpack function of a message in which no signal has a parent.
+///
+/// Under every data model, a call of it gives -22 where the size is below the message's length, and
+/// 0 where that length is 0, for any two pointers, and touches nothing. Else, where the first pointer
+/// is at the message's struct, and the second at an object that begins with as many bytes as the
+/// message has, it gives 0; each field whose signal is active holds the signal's raw value of these
+/// bytes, and all other fields and objects are as before. That is said of the function as a text has
+/// it, in which `EINVAL` is the number 22, in each unit that has the message's struct and the helpers
+/// that are called.
 pub fn unpack_tree(
     alloc: Global,
     message: &Message,
@@ -114,6 +124,7 @@ pub fn unpack_tree(
     requires valid { IsOfValidDatabase message.now }
     requires flat { AllByRecursion HasNoParent message.now.signals }
     ensures tree { IfOk result (λ f. bare_item (AFunction f) ≡ spec.unpack_function (name pack.error_name) message.now names.now) }
+    ensures unpacks { IsNamed message.now names.now → IfOk result (λ f. UnpacksAs message.now names.now f) }
 {
     whole(alloc, message, names)
 }
