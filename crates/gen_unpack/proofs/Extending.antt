@@ -1,6 +1,6 @@
 -- The statement that extends the sign of a signal in its local.
-use Rattle.std.proofs.Common.{◌≡◌, ℕ, zero, suc, ◌+◌, ◌-◌, ◌*◌, ◌^◌, ◌<◌, ◌≤◌, Bool, true, false, not, List, [], ◌∷◌, map, Option, Some, refl, sym, ap, subst, ◌∙◌, arith, Ok, pos, ℤ, int_eq}
-use Rattle.std.specs.Prelude.{bit_and, bit_or, nat_lt, if◌then◌else◌}
+use Rattle.std.proofs.Common.{◌≡◌, ℕ, suc, ◌+◌, ◌-◌, ◌*◌, ◌^◌, ◌<◌, ◌≤◌, Bool, true, false, not, List, [], ◌∷◌, map, Some, refl, ap, subst, ◌∙◌, arith, Ok, pos, int_eq}
+use Rattle.std.specs.Prelude.{bit_and, if◌then◌else◌}
 use Rattle.std.specs.Int.{bit_at}
 use Rattle.std.specs.Str.{bytes_eq}
 use Rattle.std.proofs.lemmas.Nat.{and_le_l}
@@ -11,7 +11,6 @@ use Rattle.c_text.specs.declared.token.IntType.{IntType}
 use Rattle.c_text.specs.declared.token.IntType.TheVariants as t
 use Rattle.c_tree.specs.declared.expression.BinaryOp.TheVariants as o
 use Rattle.c_tree.specs.declared.statement.AssignOp.TheVariants as a
-use Rattle.c_tree.specs.BareExpression.{name, binary}
 use Rattle.c_tree.specs.BareStatement.{Action, when, block, actions_of}
 use Rattle.c_mem.specs.declared.objects.Object.{Object}
 use Rattle.c_widths.specs.IntegerType.{exact_type}
@@ -33,10 +32,10 @@ use Rattle.c_effect.proofs.Placeless.{no_place, grown, grown_stmt}
 use Rattle.c_effect.proofs.Sequences.{sequence-first}
 use Rattle.c_effect.proofs.Statements.{Ends, changes-local, ends-If-taken, ends-If-passed, ends-Block}
 use Rattle.shift_helpers.specs.HelperResult.{IsWidth}
-use Rattle.gen_unpack.specs.UnpackTree.{of_width, has_sign, filled_up, sign_extended}
+use Rattle.gen_unpack.specs.UnpackTree.{of_width, has_sign, filled_up}
 use Rattle.gen_unpack.proofs.Sums.{number_of}
 use Rattle.gen_unpack.proofs.Signs.{carried, with-upper}
-use Rattle.gen_unpack.proofs.Widths.{Suffixed, suffixed-at, suffixed-fits, gives-of-width}
+use Rattle.gen_unpack.proofs.Widths.{suffixed-at, suffixed-fits, gives-of-width}
 
 -- what a block changed behind it
 closed-set : (local : List ℕ) (g h : Holding) (locals : List Block) → held_by local locals ≡ Some h → closed (set_local local g (opened locals)) ≡ set_local local g locals

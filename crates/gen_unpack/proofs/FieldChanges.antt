@@ -1,5 +1,5 @@
 -- An assignment that changes a field of a struct by an operator (ISO/IEC 9899:1999, 6.5.16.2).
-use Rattle.std.proofs.Common.{◌≡◌, ℕ, ◌<◌, true, List, length, Option, Some, ◌∙◌, refl, arith, Ok, ℤ}
+use Rattle.std.proofs.Common.{◌≡◌, ℕ, ◌<◌, true, List, length, Some, ◌∙◌, refl, arith, Ok, ℤ}
 use Rattle.std.specs.Prelude.{slice_get, slice_set, nat_lt}
 use Rattle.std.proofs.lemmas.Bool.Decides.{nat_tests}
 use Rattle.std.proofs.lemmas.Option.{slice_get_within}

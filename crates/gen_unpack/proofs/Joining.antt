@@ -1,5 +1,5 @@
 -- The statements that join the parts of a signal's segments, in its field or in its local.
-use Rattle.std.proofs.Common.{◌≡◌, ℕ, zero, suc, ◌+◌, ◌^◌, ◌<◌, ◌≤◌, true, false, List, [], ◌∷◌, ◌++◌, length, map, get_or, Option, Some, None, inl, inr, refl, sym, ap, subst, ◌∙◌, arith, Ok, pos, ℤ}
+use Rattle.std.proofs.Common.{◌≡◌, ℕ, zero, suc, ◌+◌, ◌^◌, ◌<◌, ◌≤◌, false, List, [], ◌∷◌, ◌++◌, length, map, get_or, Option, Some, inl, inr, refl, sym, ap, subst, ◌∙◌, arith, Ok, pos, ℤ}
 use Rattle.std.specs.Prelude.{◌≢◌, bit_or, slice_get, slice_set}
 use Rattle.std.specs.Int.Bits.{or_zero_l}
 use Rattle.std.specs.List.{AllByRecursion}
@@ -14,7 +14,7 @@ use Rattle.c_text.specs.declared.token.IntType.TheVariants as t
 use Rattle.c_tree.specs.declared.expression.BinaryOp.TheVariants as o
 use Rattle.c_tree.specs.declared.statement.AssignOp.TheVariants as a
 use Rattle.c_tree.specs.declared.item.Item.{Item}
-use Rattle.c_tree.specs.BareExpression.{Tree, name, member, element}
+use Rattle.c_tree.specs.BareExpression.{name, member, element}
 use Rattle.c_tree.specs.BareStatement.{assign}
 use Rattle.c_mem.specs.declared.objects.Object.{Object}
 use Rattle.c_mem.specs.declared.objects.Object.TheVariants.{Bytes, Fields}
@@ -22,7 +22,6 @@ use Rattle.c_mem.specs.declared.objects.Pointer.TheVariants.{At}
 use Rattle.c_mem.specs.Cells.{CellsOf}
 use Rattle.c_widths.specs.DataModel.{DataModel}
 use Rattle.c_widths.specs.IntegerType.{exact_type}
-use Rattle.c_widths.specs.Conversion.{wrap}
 use Rattle.c_operators.specs.Value.{typed}
 use Rattle.c_operators.specs.Operator.{operate}
 use Rattle.c_operators.proofs.Models.{IsOneOf}
@@ -54,20 +53,20 @@ use Rattle.gen_pack.specs.Packs.{HasHelper}
 use Rattle.gen_unpack.specs.SegmentRead.{unpack_kind, unpack_shift}
 use Rattle.gen_unpack.specs.UnpackTree.{segment_of_byte, joined}
 use Rattle.gen_unpack.specs.Unpacks.{AreBytesOf}
-use Rattle.gen_unpack.proofs.SegmentParts.{part, part-small, helper-gives}
+use Rattle.gen_unpack.proofs.SegmentParts.{part-small, helper-gives}
 use Rattle.gen_unpack.proofs.Sums.{part_of, with_parts}
 use Rattle.gen_unpack.proofs.FieldChanges.{changes-member}
 
 -- ---- the call for a segment
 
-record IsUnpackCall (w : ℕ) (g : Segment) : Type 0 where
-  takes : taken_width (unpack_kind g) w ≡ 8
-  returns : given_width (unpack_kind g) w ≡ w
-  shift : unpack_shift g < shift_limit (unpack_kind g) w
-  small : unpack_shift g < 2 ^ 8
-  mask : mask_of g < 2 ^ 8
+pub record IsUnpackCall (w : ℕ) (g : Segment) : Type 0 where
+  pub takes : taken_width (unpack_kind g) w ≡ 8
+  pub returns : given_width (unpack_kind g) w ≡ w
+  pub shift : unpack_shift g < shift_limit (unpack_kind g) w
+  pub small : unpack_shift g < 2 ^ 8
+  pub mask : mask_of g < 2 ^ 8
 
-unpack-call : (w length : ℕ) (g : Segment) → IsWidth w → length ≤ w → IsWithin length g → IsUnpackCall w g
+pub unpack-call : (w length : ℕ) (g : Segment) → IsWidth w → length ≤ w → IsWithin length g → IsUnpackCall w g
 unpack-call w length g iw le l =
     let top : 2 ^ (g.byte_low + g.count) ≤ 2 ^ 8 = pow_mono {i = g.byte_low + g.count} {j = 8} (omega (arith, l.in_byte)) in
     let low : 0 < 2 ^ g.byte_low = pow_pos g.byte_low in

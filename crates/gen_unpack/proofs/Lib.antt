@@ -1,17 +1,21 @@
 -- What is proved of them.
-mod OneLevel
+pub mod OneLevel
 mod Bodies
-mod SegmentParts
-mod Sums
-mod Signs
+-- Numbers: the parts of a signal, joined, and their sign.
+pub mod SegmentParts
+pub mod Sums
+pub mod Signs
 mod Widths
+-- What each statement does, and all of them.
 mod FieldChanges
-mod Joining
+pub mod Joining
 mod Extending
-mod Reading
+pub mod Reading
 mod Declarations
 mod Steps
 mod RawFields
-mod Running
-mod Expanding
-mod Anywhere
+pub mod Expanding
+pub mod Running
+pub mod Anywhere
+-- Worked values.
+mod WorkedReading

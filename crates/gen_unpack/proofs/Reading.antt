@@ -1,6 +1,6 @@
 -- The statements of signals: those of each leave its value of the bytes in its field, and keep the two pointers and the locals of signals.
-use Rattle.std.proofs.Common.{◌≡◌, ℕ, suc, ◌+◌, ◌-◌, ◌^◌, ◌<◌, ◌≤◌, Bool, true, false, ◌&&◌, List, [], ◌∷◌, ◌++◌, length, map, Option, Some, None, inl, inr, refl, sym, ap, subst, ◌∙◌, arith, Ok, pos, ℤ}
-use Rattle.std.specs.Prelude.{◌⊎◌, nat_le, nat_lt, is_some, if◌then◌else◌, ◌-ℤ◌, slice_get, slice_set, IsSomeAnd}
+use Rattle.std.proofs.Common.{◌≡◌, ℕ, ◌-◌, ◌^◌, ◌<◌, ◌≤◌, Bool, true, false, ◌&&◌, List, [], ◌∷◌, ◌++◌, length, map, Option, Some, None, inl, inr, refl, sym, ap, subst, ◌∙◌, arith, Ok, pos, ℤ}
+use Rattle.std.specs.Prelude.{nat_le, nat_lt, is_some, if◌then◌else◌, ◌-ℤ◌, slice_get, slice_set, IsSomeAnd}
 use Rattle.std.specs.Int.{bit_at}
 use Rattle.std.specs.List.{AllByRecursion, flat_map}
 use Rattle.std.specs.Str.{bytes_eq}
@@ -20,7 +20,6 @@ use Rattle.c_widths.specs.DataModel.{DataModel}
 use Rattle.c_widths.specs.IntegerType.{exact_type}
 use Rattle.c_widths.specs.Conversion.{wrap}
 use Rattle.c_mem.specs.declared.objects.Object.{Object}
-use Rattle.c_mem.specs.declared.objects.Object.TheVariants.{Fields}
 use Rattle.c_mem.specs.Cells.{CellsOf}
 use Rattle.c_operators.proofs.Models.{IsOneOf}
 use Rattle.c_operators.proofs.Exact.{signed-at}

@@ -1,5 +1,5 @@
 -- The body of an unpack function, run from its parameters: it refuses a short buffer, and else leaves the raw values in the struct.
-use Rattle.std.proofs.Common.{◌≡◌, ◌≢◌, ℕ, zero, suc, ◌^◌, ◌<◌, ◌≤◌, List, [], ◌∷◌, ◌++◌, length, map, Option, Some, inl, inr, refl, sym, ap, subst, ◌∙◌, arith, Ok, pos, negsuc, ℤ}
+use Rattle.std.proofs.Common.{◌≡◌, ◌≢◌, ℕ, zero, suc, ◌<◌, ◌≤◌, List, [], ◌∷◌, ◌++◌, length, map, Option, Some, inl, inr, refl, sym, ap, subst, ◌∙◌, arith, Ok, pos, negsuc, ℤ}
 use Rattle.std.specs.Prelude.{slice_get, slice_set}
 use Rattle.std.specs.List.{AllByRecursion, flat_map}
 use Rattle.std.proofs.lemmas.Bool.Decides.{eqb_tells}
@@ -37,7 +37,6 @@ use Rattle.c_effect.specs.StatementEffect.{effects_of}
 use Rattle.c_effect.specs.FunctionCall.{run_in, unit_world}
 use Rattle.c_effect.proofs.Calls.{parameters, runs-returned}
 use Rattle.c_effect.proofs.Locals.{reads-number, reads-pointer}
-use Rattle.c_effect.proofs.Memory.{slice_get-set}
 use Rattle.c_effect.proofs.Placeless.{no_place, grown_stmt, grown_list, grown_function}
 use Rattle.c_effect.proofs.Sequences.{sequence-first, sequence-last}
 use Rattle.c_effect.proofs.Statements.{discards}

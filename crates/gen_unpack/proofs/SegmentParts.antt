@@ -1,6 +1,6 @@
 -- The bits of a byte that a segment has, as the number that a helper makes of them: moved to where they stand in the value.
-use Rattle.std.proofs.Common.{◌≡◌, ℕ, ◌+◌, ◌-◌, ◌*◌, ◌/◌, ◌%◌, ◌^◌, ◌<◌, ◌≤◌, inl, inr, refl, sym, ap, ◌∙◌, arith}
-use Rattle.std.specs.Prelude.{bit_and, nat_le}
+use Rattle.std.proofs.Common.{◌≡◌, ℕ, ◌+◌, ◌-◌, ◌*◌, ◌/◌, ◌%◌, ◌^◌, ◌<◌, ◌≤◌, inl, inr, sym, ap, ◌∙◌, arith}
+use Rattle.std.specs.Prelude.{bit_and}
 use Rattle.std.specs.Int.{bit_at}
 use Rattle.std.proofs.lemmas.Nat.{pow-add, shl-shr}
 use Rattle.std.proofs.lemmas.Nat.Bits.{bit_at-zero, bit_at_cat_low, bit_at_cat_high, and_high}
@@ -8,7 +8,7 @@ use Rattle.std.proofs.lemmas.Bool.Decides.{leb_tells}
 use Rattle.std.proofs.Math.Nat.{mod-eq_of_lt, mod-lt}
 use Rattle.std.proofs.Math.Pow.{shl_lt, shr-shr, pow_mono, pow_pos, split}
 use Rattle.bit_layout.specs.declared.walk.Segment.{Segment}
-use Rattle.bit_layout.specs.Covers.{IsWithin, HasBit}
+use Rattle.bit_layout.specs.Covers.{HasBit}
 use Rattle.shift_helpers.specs.HelperResult.{result}
 use Rattle.gen_pack.specs.SegmentMove.{mask_of}
 use Rattle.gen_unpack.specs.SegmentRead.{unpack_kind, unpack_shift}

@@ -1,15 +1,12 @@
 -- The statements around those of the signals: the size test, what is discarded, and what is returned.
-use Rattle.std.proofs.Common.{◌≡◌, ℕ, ◌^◌, ◌<◌, ◌≤◌, Bool, true, false, List, [], ◌∷◌, length, map, Some, refl, ◌∙◌, arith, Ok, pos, negsuc}
-use Rattle.std.specs.Prelude.{slice_get, slice_set, nat_lt, if◌then◌else◌}
+use Rattle.std.proofs.Common.{◌≡◌, ℕ, ◌^◌, ◌<◌, ◌≤◌, Bool, true, false, List, [], ◌∷◌, map, Some, refl, ◌∙◌, arith, Ok, pos, negsuc}
+use Rattle.std.specs.Prelude.{nat_lt, if◌then◌else◌}
 use Rattle.std.proofs.lemmas.Bool.Decides.{nat_tests}
 use Rattle.c_text.specs.declared.token.IntType.TheVariants as t
 use Rattle.c_tree.specs.declared.expression.BinaryOp.TheVariants as o
 use Rattle.c_tree.specs.declared.expression.UnaryOp.TheVariants as u
 use Rattle.c_mem.specs.declared.objects.Object.{Object}
-use Rattle.c_mem.specs.declared.objects.Object.TheVariants.{Bytes}
 use Rattle.c_mem.specs.declared.objects.Pointer.{Pointer}
-use Rattle.c_mem.specs.declared.objects.Pointer.TheVariants.{At}
-use Rattle.c_mem.specs.Cells.{CellsOf, filled}
 use Rattle.c_widths.specs.IntegerType.{size_type}
 use Rattle.c_widths.specs.Conversion.{convert, wrap}
 use Rattle.c_operators.specs.declared.value.Value.TheVariants.{Integer, Pointer as pointer}
@@ -28,7 +25,7 @@ use Rattle.c_effect.proofs.Expressions.{Gives, gives-int, gives-unsigned, gives-
 use Rattle.c_effect.proofs.Locals.{reads-number, reads-pointer}
 use Rattle.c_effect.proofs.Placeless.{no_place, grown, grown_stmt}
 use Rattle.c_effect.proofs.Sequences.{sequence-first, sequence-last}
-use Rattle.c_effect.proofs.Statements.{Ends, ends-Return, ends-If-taken, ends-If-passed, ends-Block, discards, memset-fills}
+use Rattle.c_effect.proofs.Statements.{Ends, ends-Return, ends-If-taken, ends-If-passed, ends-Block, discards}
 use Rattle.gen_pack.specs.Parts.{Part}
 use Rattle.gen_pack.specs.PackTree.{buffer, source, size, number, returned, size_below, negative, size_asked}
 use Rattle.gen_unpack.specs.UnpackTree.{unused}

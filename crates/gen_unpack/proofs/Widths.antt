@@ -1,5 +1,5 @@
 -- Constants of the unsigned type of a width (ISO/IEC 9899:1999, 6.4.4.1) beside values of that type, under each model: rows that compute.
-use Rattle.std.proofs.Common.{◌≡◌, ℕ, ◌^◌, ◌<◌, ◌≤◌, true, false, List, [], ◌∷◌, refl, sym, subst, arith, Ok, pos, inl, inr}
+use Rattle.std.proofs.Common.{◌≡◌, ℕ, ◌^◌, ◌<◌, ◌≤◌, true, false, List, [], ◌∷◌, refl, arith, pos}
 use Rattle.c_text.specs.declared.token.IntType.{IntType}
 use Rattle.c_text.specs.declared.token.IntType.TheVariants as t
 use Rattle.c_widths.specs.DataModel.{DataModel, ilp32, lp64}
