@@ -46,8 +46,8 @@ minus-one (suc a) b c h e = let p : suc a - 1 ≡ a = omega arith in rw p (let q
 pub with-upper : (w n x : ℕ) → n ≤ w → x < 2 ^ n → bit_or x (2 ^ w - 2 ^ n) ≡ 2 ^ w - 2 ^ n + x
 with-upper w n x le h =
     let e : (2 ^ (w - n) - 1) * 2 ^ n ≡ 2 ^ w - 2 ^ n = (let p : 2 ^ (w - n) * 2 ^ n ≡ 2 ^ w = sym (pow-add 2 (w - n) n) ∙ ap (λ k. 2 ^ k) (let q : w - n + n ≡ w = omega arith in q) in
-        let z : 0 < 2 ^ (w - n) = pow_pos (w - n) in
-        minus-one (2 ^ (w - n)) (2 ^ n) (2 ^ w) z p) in
+    let z : 0 < 2 ^ (w - n) = pow_pos (w - n) in
+    minus-one (2 ^ (w - n)) (2 ^ n) (2 ^ w) z p) in
     or_comm x (2 ^ w - 2 ^ n) ∙ rw (sym e) (or_shifted (2 ^ (w - n) - 1) n x h)
 
 -- ---- with its sign carried up, where it does not fill the width
