@@ -1,0 +1,8 @@
+use Rattle.std.proofs.Common.{◌≡◌, ◌++◌, map, length}
+use Rattle.c_tree.specs.BareStatement.{bare_statement}
+use Rattle.gen_unpack.specs.UnpackTree.{part_got}
+use Rattle.gen_pack.proofs.InPairs.{put_by, of_pair}
+use Rattle.gen_unpack.proofs.body.put_signals.Given as goal
+
+abbrev pub invariant-loop-signal : goal.invariant-loop-signal
+invariant-loop-signal l = map bare_statement l.out ≡ map bare_statement l.fn.out ++ put_by (of_pair part_got) l.signals l.names (length l.yielded)
