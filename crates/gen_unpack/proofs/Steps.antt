@@ -5,6 +5,7 @@ use Rattle.std.proofs.lemmas.Bool.Decides.{nat_tests}
 use Rattle.c_text.specs.declared.token.IntType.TheVariants as t
 use Rattle.c_tree.specs.declared.expression.BinaryOp.TheVariants as o
 use Rattle.c_tree.specs.declared.expression.UnaryOp.TheVariants as u
+use Rattle.c_tree.specs.BareStatement.{discard}
 use Rattle.c_mem.specs.declared.objects.Object.{Object}
 use Rattle.c_mem.specs.declared.objects.Pointer.{Pointer}
 use Rattle.c_widths.specs.IntegerType.{size_type}
@@ -29,7 +30,6 @@ use Rattle.c_effect.proofs.Statements.{Ends, ends-Return, ends-If-taken, ends-If
 use Rattle.gen_pack.specs.Parts.{Part}
 use Rattle.gen_pack.specs.PackTree.{buffer, source, size, number, returned, size_below, negative, size_asked}
 use Rattle.gen_unpack.specs.UnpackTree.{unused}
-use Rattle.c_tree.specs.BareStatement.{discard}
 
 truth : (b : Bool) → is_true (Integer (typed t.Int (if b then pos 1 else pos 0))) ≡ b
 truth true = refl
