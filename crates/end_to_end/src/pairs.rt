@@ -175,6 +175,19 @@ fn told(
     Ok(())
 }
 
+/// Runs commands in turn.
+fn all_told(
+    rt: &impl Abort,
+    alloc: Global,
+    files: &mut MemoryFiles,
+    commands: &[Told],
+) -> Result<(), Fail> {
+    for &(command, status, report) in commands {
+        told(rt, alloc, files, command, status, report)?;
+    }
+    Ok(())
+}
+
 #[test]
 fn pairs_are_checked_and_called(rt: HostRuntime) -> Result<(), Fail> {
     let alloc = rt.alloc();
@@ -199,9 +212,7 @@ fn pairs_are_checked_and_called(rt: HostRuntime) -> Result<(), Fail> {
             let written = format!(in alloc; "{name}.c")?;
             assert_eq!(rt; files.file(written.as_bytes()), Some(source));
         }
-        for &(command, status, report) in commands {
-            told(&rt, alloc, &mut files, command, status, report)?;
-        }
+        all_told(&rt, alloc, &mut files, commands)?;
     }
     Ok(())
 }
