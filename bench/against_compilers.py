@@ -113,14 +113,18 @@ def usable(folder):
     return found, skipped
 
 
+def runs(folder, program):
+    """Whether this machine runs the program, which may be another one's."""
+    try:
+        return run([program], folder).returncode == 0
+    except OSError:
+        return False
+
+
 def linking(folder, found):
     """Those of the compilers whose programs run here."""
     write(folder, "none.c", "#include <stdio.h>\n" + INCLUDES + NOTHING)
-    return {
-        name: words
-        for name, words in found.items()
-        if run([*words, "none.c", "-o", "none"], folder).returncode == 0 and run(["./none"], folder).returncode == 0
-    }
+    return {name: words for name, words in found.items() if run([*words, "none.c", "-o", "none"], folder).returncode == 0 and runs(folder, "./none")}
 
 
 def refused(folder, compilers, stem, files):
